@@ -1,0 +1,34 @@
+-- 01, "The plan and the things in it": rules and cars; and of number 13 what is said of a car.
+use Prim.Native.Nat.{ℕ}
+use mathlib.Core.Bool.{Bool, true, false, _&&_}
+use lib.Dec.{eqb, ltb, leb}
+use Rattle.cars.specs.declared.Notice.{Notice}
+use Rattle.cars.specs.declared.Car.{Car}
+use Rattle.cars.specs.declared.Car.the-variants.{Idle, Token, Null, Reqp, Failp, Dov, Gotp, Didv}
+
+-- "rules (1 ring, 2 multiring)": junctions, gotp, didv and letting go are under multiring rules
+unfoldable pub multiring : ℕ → Bool
+multiring rules = eqb rules 2
+
+-- "User nodes are numbered 1 to U"
+unfoldable pub isNode : ℕ → ℕ → Bool
+isNode nodes node = leb 1 node && leb node nodes
+
+-- neither the node nor the lock that is named is missing
+unfoldable pub names : ℕ → ℕ → ℕ → ℕ → Bool
+names nodes locks lock source = isNode nodes source && ltb lock locks
+
+-- a gotp or didv: under multiring rules only
+unfoldable pub noticeNames : ℕ → ℕ → ℕ → Notice → Bool
+noticeNames rules nodes locks notice = multiring rules && names nodes locks (notice .lock) (notice .source)
+
+-- 13: "a car naming a missing node or lock", "gotp or didv under ring rules"; token, idle and null carry nothing
+unfoldable pub carNames : ℕ → ℕ → ℕ → Car → Bool
+carNames rules nodes locks Idle = true
+carNames rules nodes locks Token = true
+carNames rules nodes locks Null = true
+carNames rules nodes locks (Reqp tag) = names nodes locks (tag .lock) (tag .source)
+carNames rules nodes locks (Failp tag) = names nodes locks (tag .lock) (tag .source)
+carNames rules nodes locks (Dov tag) = names nodes locks (tag .lock) (tag .source)
+carNames rules nodes locks (Gotp notice) = noticeNames rules nodes locks notice
+carNames rules nodes locks (Didv notice) = noticeNames rules nodes locks notice

@@ -1,0 +1,6 @@
+pub mod Node
+pub mod Rules
+pub mod Turn
+pub mod Astray
+pub mod Sound
+pub mod Actions

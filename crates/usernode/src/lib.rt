@@ -1,0 +1,131 @@
+// One user node: what it is, the nine rules by which it answers a car that arrives, the three actions between steps,
+// and what 13 and 15 say of one node.
+ghost use mathlib.Core.Path.{_≡_};
+ghost use Rattle.usernode.specs.Node.{had, isIdle, wantsTrain};
+ghost use Rattle.usernode.specs.Turn.{eventLetter, eventLock};
+use cars::{Car, Tag};
+
+mod actions;
+mod astray;
+mod deeds;
+mod rules;
+mod sound;
+
+// Nothing to do; a reqp or a dov to send, or sent and waited for, with its lock.
+pub enum Activity {
+    Idle,
+    ToSendReqp(u8),
+    WaitingReqp(u8),
+    ToSendDov(u8),
+    WaitingDov(u8),
+}
+
+// The car it is sending, the in-train flag, the activity, the held word and the letting-go word.
+pub struct Node {
+    pub car: Car,
+    pub flag: bool,
+    pub activity: Activity,
+    pub held: u64,
+    pub letting: u64,
+}
+
+// The nine rules, 9 first since that is what a node does that rests; each with what it needs of the car or the node.
+pub enum Rule {
+    Passes,
+    SendsReqp(u8),
+    SendsDov(u8),
+    SendsDidv(u8),
+    OwnReqp(u8),
+    OwnFailp(u8),
+    FailsReqp(Tag),
+    OwnDov(u8),
+    LosesLock(Tag),
+}
+
+// What a step did at a node, with the lock: granted, failp returned, lost to a dov, own dov back, didv sent.
+pub enum Event {
+    Nothing,
+    Granted(u8),
+    Failed(u8),
+    Lost(u8),
+    Back(u8),
+    Sent(u8),
+}
+
+// A node after its turn in a step, and the event that its rule gave.
+pub struct Turn {
+    pub node: Node,
+    pub event: Event,
+}
+
+// The three actions between steps.
+pub enum Action {
+    Take,
+    Release,
+    Force,
+}
+
+// The event's letter in a line; 0 for no event.
+pub fn event_letter(event: Event) -> u8
+    ensures { λ r. ⌜ r ≡ eventLetter event ⌝ }
+{
+    match event {
+        Event::Nothing => 0,
+        Event::Granted(lock) => b'G',
+        Event::Failed(lock) => b'N',
+        Event::Lost(lock) => b'L',
+        Event::Back(lock) => b'B',
+        Event::Sent(lock) => b'D',
+    }
+}
+
+// The event's lock; 0 for no event.
+pub fn event_lock(event: Event) -> u8
+    ensures { λ r. ⌜ r ≡ eventLock event ⌝ }
+{
+    match event {
+        Event::Nothing => 0,
+        Event::Granted(lock) => lock,
+        Event::Failed(lock) => lock,
+        Event::Lost(lock) => lock,
+        Event::Back(lock) => lock,
+        Event::Sent(lock) => lock,
+    }
+}
+
+// Whether there is nothing to do.
+pub fn is_idle(activity: Activity) -> bool
+    ensures { λ r. ⌜ r ≡ isIdle activity ⌝ }
+{
+    match activity {
+        Activity::Idle => true,
+        Activity::ToSendReqp(lock) => false,
+        Activity::WaitingReqp(lock) => false,
+        Activity::ToSendDov(lock) => false,
+        Activity::WaitingDov(lock) => false,
+    }
+}
+
+impl Node {
+    // Whether the node holds the lock or is letting it go.
+    pub fn had(self, lock: u8) -> bool
+        ensures { λ r. ⌜ r ≡ had self lock ⌝ }
+    {
+        if words::has(self.held, lock) {
+            return true;
+        }
+        words::has(self.letting, lock)
+    }
+
+    // Whether the node wants a train: it has something to send, or waits, or has a lock to let go.
+    pub fn wants_train(self) -> bool
+        ensures { λ r. ⌜ r ≡ wantsTrain self ⌝ }
+    {
+        let doing = self.activity;
+        let letting = self.letting;
+        if is_idle(doing) {
+            return letting != 0;
+        }
+        true
+    }
+}

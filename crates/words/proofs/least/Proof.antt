@@ -1,0 +1,20 @@
+use Rattle.words.specs.Words.{least}
+use lib.Count.{trailing-le}
+use native.Mathlib.Omega.{arith}
+use mathlib.Core.Path.{refl}
+use Rattle.words.proofs.least.Statement.{statement}
+use Rattle.words.proofs.least.Tie as tie
+use Rattle.words.proofs.least.Reads as reads
+use Rattle.words.proofs.least.Lts as lts
+
+-- src/lib.rt:40:5
+cast-result : tie.Need-cast-result
+cast-result c = record { fits = omega (arith, trailing-le 64 (c .args .word)) }
+
+-- src/lib.rt:37:1
+returns : tie.Need-returns
+unfolding least
+returns c = refl
+
+pub least-spec : {M : Type 1} → statement M
+least-spec = tie.close (tie.spec cast-result returns)

@@ -1,0 +1,25 @@
+use Rattle.words.proofs.Bits.{one-shifted}
+use Rattle.words.specs.Words.{withoutLock}
+use borrow.Author.Tests.{lt-ltb, le-ltb}
+use borrow.Author.Needs.{needs}
+use Rattle.words.proofs.without_lock.Statement.{statement}
+use Rattle.words.proofs.without_lock.Tie as tie
+use Rattle.words.proofs.without_lock.Reads as reads
+use Rattle.words.proofs.without_lock.Lts as lts
+
+-- src/lib.rt:31:32
+shl-result : tie.Need-shl-result
+shl-result c = search needs
+
+-- src/lib.rt:31:9
+returns : tie.Need-returns
+unfolding withoutLock
+returns c = simp (lt-ltb _ _ (c .if1 .taken), one-shifted _ (c .if1 .taken))
+
+-- src/lib.rt:27:1
+returns-2 : tie.Need-returns-2
+unfolding withoutLock
+returns-2 c = simp (le-ltb _ _ (c .if1 .left))
+
+pub without-lock-spec : {M : Type 1} → statement M
+without-lock-spec = tie.close (tie.spec shl-result returns returns-2)
