@@ -7,8 +7,21 @@ use Rattle.usernode.specs.declared.Activity.{Activity}
 use Rattle.usernode.specs.declared.Activity.the-variants.{ToSendReqp, ToSendDov}
 use Rattle.usernode.specs.declared.Action.{Action}
 use Rattle.usernode.specs.declared.Action.the-variants.{Take, Release, Force}
+use Rattle.usernode.specs.declared.ActionAnswer.{ActionAnswer}
+use Rattle.usernode.specs.declared.ActionAnswer.the-variants.{Accepted, NoSuchNode, NoSuchLock, NotIdle, Holds, LettingGo, DoesNotHold, BadState}
 use Rattle.usernode.specs.Node.{isIdle}
 use Rattle.usernode.specs.Turn.{letGo}
+
+-- the number of an answer; 0: accepted
+unfoldable pub actionAnswerNumber : ActionAnswer → ℕ
+actionAnswerNumber Accepted = 0
+actionAnswerNumber NoSuchNode = 7
+actionAnswerNumber NoSuchLock = 8
+actionAnswerNumber NotIdle = 9
+actionAnswerNumber Holds = 10
+actionAnswerNumber LettingGo = 11
+actionAnswerNumber DoesNotHold = 12
+actionAnswerNumber BadState = 13
 
 -- 10 "take or force: the node holds the lock", 11 "take or force: the node is letting the lock go"; 0: none applies
 unfoldable pub wishNumber : Node → ℕ → ℕ

@@ -1,52 +1,52 @@
 // Take, release and force, at the node that is named: the numbers 9 to 12, and the node after an action that is accepted.
 ghost use mathlib.Core.Path.{_≡_};
-ghost use Rattle.usernode.specs.Actions.{wishNumber, releaseNumber, laterNumber, nodeNumber, busyWith, released, acted};
-use crate::{Action, Activity, Node};
+ghost use Rattle.usernode.specs.Actions.{actionAnswerNumber, wishNumber, releaseNumber, laterNumber, nodeNumber, busyWith, released, acted};
+use crate::{Action, ActionAnswer, Activity, Node};
 
 impl Node {
     // Take and force: 10 and 11.
-    fn wish_number(self, lock: u8) -> u8
-        ensures { λ r. ⌜ r ≡ wishNumber self lock ⌝ }
+    fn answer_to_wish(self, lock: u8) -> ActionAnswer
+        ensures { λ r. ⌜ actionAnswerNumber r ≡ wishNumber self lock ⌝ }
     {
         if words::has(self.held, lock) {
-            return 10;
+            return ActionAnswer::Holds;
         }
         if words::has(self.letting, lock) {
-            return 11;
+            return ActionAnswer::LettingGo;
         }
-        0
+        ActionAnswer::Accepted
     }
 
     // Release: 12.
-    fn release_number(self, lock: u8) -> u8
-        ensures { λ r. ⌜ r ≡ releaseNumber self lock ⌝ }
+    fn answer_to_release(self, lock: u8) -> ActionAnswer
+        ensures { λ r. ⌜ actionAnswerNumber r ≡ releaseNumber self lock ⌝ }
     {
         if words::has(self.held, lock) {
-            return 0;
+            return ActionAnswer::Accepted;
         }
-        12
+        ActionAnswer::DoesNotHold
     }
 
     // 10 to 12, by the action.
-    fn later_number(self, action: Action, lock: u8) -> u8
-        ensures { λ r. ⌜ r ≡ laterNumber action self lock ⌝ }
+    fn later_answer(self, action: Action, lock: u8) -> ActionAnswer
+        ensures { λ r. ⌜ actionAnswerNumber r ≡ laterNumber action self lock ⌝ }
     {
         match action {
-            Action::Take => self.wish_number(lock),
-            Action::Release => self.release_number(lock),
-            Action::Force => self.wish_number(lock),
+            Action::Take => self.answer_to_wish(lock),
+            Action::Release => self.answer_to_release(lock),
+            Action::Force => self.answer_to_wish(lock),
         }
     }
 
-    // The number that the node refuses the action with; 0 where it does not.
-    pub fn number(self, action: Action, lock: u8) -> u8
-        ensures { λ r. ⌜ r ≡ nodeNumber action self lock ⌝ }
+    // The node's answer to an action: accepted, or 9 to 12.
+    pub fn answer(self, action: Action, lock: u8) -> ActionAnswer
+        ensures { λ r. ⌜ actionAnswerNumber r ≡ nodeNumber action self lock ⌝ }
     {
         let doing = self.activity;
         if crate::is_idle(doing) {
-            return self.later_number(action, lock);
+            return self.later_answer(action, lock);
         }
-        9
+        ActionAnswer::NotIdle
     }
 
     // The node with another activity.

@@ -3,6 +3,7 @@
 ghost use mathlib.Core.Path.{_≡_};
 ghost use Rattle.usernode.specs.Node.{had, isIdle, wantsTrain};
 ghost use Rattle.usernode.specs.Turn.{eventLetter, eventLock};
+ghost use Rattle.usernode.specs.Actions.{actionAnswerNumber};
 use cars::{Car, Tag};
 
 mod actions;
@@ -63,6 +64,34 @@ pub enum Action {
     Take,
     Release,
     Force,
+}
+
+// The answer to an action: accepted, 7 to 12, or 13.
+pub enum ActionAnswer {
+    Accepted,
+    NoSuchNode,
+    NoSuchLock,
+    NotIdle,
+    Holds,
+    LettingGo,
+    DoesNotHold,
+    BadState,
+}
+
+// The answer's number in 01; 0: accepted.
+pub fn answer_number(answer: ActionAnswer) -> u8
+    ensures { λ r. ⌜ r ≡ actionAnswerNumber answer ⌝ }
+{
+    match answer {
+        ActionAnswer::Accepted => 0,
+        ActionAnswer::NoSuchNode => 7,
+        ActionAnswer::NoSuchLock => 8,
+        ActionAnswer::NotIdle => 9,
+        ActionAnswer::Holds => 10,
+        ActionAnswer::LettingGo => 11,
+        ActionAnswer::DoesNotHold => 12,
+        ActionAnswer::BadState => 13,
+    }
 }
 
 // The event's letter in a line; 0 for no event.

@@ -1,60 +1,47 @@
+-- `usernode::event_letter` meets its contract. On each way to a return, the tests and calls on the way choose the case of the definition.
 use Rattle.usernode.specs.Turn.{eventLetter}
 use borrow.Author.Needs.{needs}
 use Rattle.usernode.proofs.event_letter.Statement.{statement}
 use Rattle.usernode.proofs.event_letter.Tie as tie
-use Rattle.usernode.proofs.event_letter.Reads as reads
-use Rattle.usernode.proofs.event_letter.Lts as lts
 
--- src/lib.rt:73:27
 enum-told : tie.Need-enum-told
 enum-told c = search needs
 
--- src/lib.rt:74:24
 enum-known-event : tie.Need-enum-known-event
 enum-known-event c = search needs
 
--- src/lib.rt:75:23
 enum-known-event-2 : tie.Need-enum-known-event-2
 enum-known-event-2 c = search needs
 
--- src/lib.rt:76:21
 enum-known-event-3 : tie.Need-enum-known-event-3
 enum-known-event-3 c = search needs
 
--- src/lib.rt:77:21
 enum-known-event-4 : tie.Need-enum-known-event-4
 enum-known-event-4 c = search needs
 
--- src/lib.rt:78:21
 enum-known-event-5 : tie.Need-enum-known-event-5
 enum-known-event-5 c = search needs
 
--- src/lib.rt:69:1
 returns : tie.Need-returns
 unfolding eventLetter
 returns c = simp (c .enum-told .given .1)
 
--- src/lib.rt:69:1
 returns-2 : tie.Need-returns-2
 unfolding eventLetter
 returns-2 c = simp (c .before .event .given .1)
 
--- src/lib.rt:69:1
 returns-3 : tie.Need-returns-3
 unfolding eventLetter
 returns-3 c = simp (c .before .event2 .given .1)
 
--- src/lib.rt:69:1
 returns-4 : tie.Need-returns-4
 unfolding eventLetter
 returns-4 c = simp (c .before .event3 .given .1)
 
--- src/lib.rt:69:1
 returns-5 : tie.Need-returns-5
 unfolding eventLetter
 returns-5 c = simp (c .before .event4 .given .1)
 
--- src/lib.rt:69:1
 returns-6 : tie.Need-returns-6
 unfolding eventLetter
 returns-6 c = simp (c .before .event5 .given .1)

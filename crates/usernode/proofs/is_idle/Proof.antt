@@ -1,51 +1,40 @@
+-- `usernode::is_idle` meets its contract. On each way to a return, the tests and calls on the way choose the case of the definition.
 use Rattle.usernode.specs.Node.{isIdle}
 use borrow.Author.Needs.{needs}
 use Rattle.usernode.proofs.is_idle.Statement.{statement}
 use Rattle.usernode.proofs.is_idle.Tie as tie
-use Rattle.usernode.proofs.is_idle.Reads as reads
-use Rattle.usernode.proofs.is_idle.Lts as lts
 
--- src/lib.rt:101:27
 enum-told : tie.Need-enum-told
 enum-told c = search needs
 
--- src/lib.rt:102:30
 enum-known-activity : tie.Need-enum-known-activity
 enum-known-activity c = search needs
 
--- src/lib.rt:103:31
 enum-known-activity-2 : tie.Need-enum-known-activity-2
 enum-known-activity-2 c = search needs
 
--- src/lib.rt:104:29
 enum-known-activity-3 : tie.Need-enum-known-activity-3
 enum-known-activity-3 c = search needs
 
--- src/lib.rt:105:30
 enum-known-activity-4 : tie.Need-enum-known-activity-4
 enum-known-activity-4 c = search needs
 
--- src/lib.rt:97:1
 returns : tie.Need-returns
 unfolding isIdle
 returns c = simp (c .enum-told .given .1)
 
--- src/lib.rt:97:1
 returns-2 : tie.Need-returns-2
 unfolding isIdle
 returns-2 c = simp (c .before .activity .given .1)
 
--- src/lib.rt:97:1
 returns-3 : tie.Need-returns-3
 unfolding isIdle
 returns-3 c = simp (c .before .activity2 .given .1)
 
--- src/lib.rt:97:1
 returns-4 : tie.Need-returns-4
 unfolding isIdle
 returns-4 c = simp (c .before .activity3 .given .1)
 
--- src/lib.rt:97:1
 returns-5 : tie.Need-returns-5
 unfolding isIdle
 returns-5 c = simp (c .before .activity4 .given .1)

@@ -1,11 +1,9 @@
+-- `usernode::Node::busy_with` meets its contract. On each way to a return, the tests and calls on the way choose the case of the definition.
 use mathlib.Core.Path.{refl}
 use Rattle.usernode.specs.Actions.{busyWith}
 use Rattle.usernode.proofs.Node.busy_with.Statement.{statement}
 use Rattle.usernode.proofs.Node.busy_with.Tie as tie
-use Rattle.usernode.proofs.Node.busy_with.Reads as reads
-use Rattle.usernode.proofs.Node.busy_with.Lts as lts
 
--- src/actions.rt:53:5
 returns : tie.Need-returns
 unfolding busyWith
 returns c = refl

@@ -1,32 +1,25 @@
+-- `usernode::Node::on_reqp` meets its contract. On each way to a return, the tests and calls on the way choose the case of the definition.
 use Rattle.usernode.specs.Rules.{onReqp}
 use borrow.Author.Tests.{eq-eqb, ne-eqb}
 use borrow.Author.Needs.{needs}
 use Rattle.usernode.proofs.Node.on_reqp.Statement.{statement}
 use Rattle.usernode.proofs.Node.on_reqp.Tie as tie
-use Rattle.usernode.proofs.Node.on_reqp.Reads as reads
-use Rattle.usernode.proofs.Node.on_reqp.Lts as lts
-use Rattle.usernode.proofs.Node.had.Reads as had-reads
 
--- src/rules.rt:59:13
 returns : tie.Need-returns
 unfolding onReqp
 returns c = simp (eq-eqb _ _ (c .if1 .taken))
 
--- src/rules.rt:62:16
 had-requires : tie.Need-had-requires
 had-requires c κs = search needs
 
--- src/rules.rt:63:17
 returns-2 : tie.Need-returns-2
 unfolding onReqp
 returns-2 c = simp (c .if3 .taken, ← c .before .had .ensures, c .before .before .if2 .taken, ne-eqb _ _ (c .before .before .before .if1 .left))
 
--- src/rules.rt:65:13
 returns-3 : tie.Need-returns-3
 unfolding onReqp
 returns-3 c = simp (c .if3 .left, ← c .before .had .ensures, c .before .before .if2 .taken, ne-eqb _ _ (c .before .before .before .if1 .left))
 
--- src/rules.rt:54:5
 returns-4 : tie.Need-returns-4
 unfolding onReqp
 returns-4 c = simp (c .if2 .left, ne-eqb _ _ (c .before .if1 .left))

@@ -1,32 +1,25 @@
+-- `usernode::Node::unready` meets its contract. On each way to a return, the tests and calls on the way choose the case of the definition.
 use Rattle.usernode.specs.Astray.{unready}
 use borrow.Author.Tests.{eq-eqb, ne-eqb}
 use borrow.Author.Needs.{needs}
 use Rattle.usernode.proofs.Node.unready.Statement.{statement}
 use Rattle.usernode.proofs.Node.unready.Tie as tie
-use Rattle.usernode.proofs.Node.unready.Reads as reads
-use Rattle.usernode.proofs.Node.unready.Lts as lts
-use Rattle.usernode.proofs.Node.had.Reads as had-reads
 
--- src/astray.rt:42:21
 had-requires : tie.Need-had-requires
 had-requires c κs = search needs
 
--- src/astray.rt:42:21
 returns : tie.Need-returns
 unfolding unready
 returns c = simp (c .had .ensures, c .before .if3 .taken, c .before .before .if2 .taken, eq-eqb _ _ (c .before .before .before .if1 .taken))
 
--- src/astray.rt:44:17
 returns-2 : tie.Need-returns-2
 unfolding unready
 returns-2 c = simp (c .if3 .left, c .before .if2 .taken, eq-eqb _ _ (c .before .before .if1 .taken))
 
--- src/astray.rt:46:13
 returns-3 : tie.Need-returns-3
 unfolding unready
 returns-3 c = simp (c .if2 .left, eq-eqb _ _ (c .before .if1 .taken))
 
--- src/astray.rt:35:5
 returns-4 : tie.Need-returns-4
 unfolding unready
 returns-4 c = simp (ne-eqb _ _ (c .if1 .left))

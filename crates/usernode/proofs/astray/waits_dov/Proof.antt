@@ -1,51 +1,40 @@
+-- `usernode::astray::waits_dov` meets its contract. On each way to a return, the tests and calls on the way choose the case of the definition.
 use Rattle.usernode.specs.Astray.{waitsDov}
 use borrow.Author.Needs.{needs}
 use Rattle.usernode.proofs.astray.waits_dov.Statement.{statement}
 use Rattle.usernode.proofs.astray.waits_dov.Tie as tie
-use Rattle.usernode.proofs.astray.waits_dov.Reads as reads
-use Rattle.usernode.proofs.astray.waits_dov.Lts as lts
 
--- src/astray.rt:25:27
 enum-told : tie.Need-enum-told
 enum-told c = search needs
 
--- src/astray.rt:26:30
 enum-known-activity : tie.Need-enum-known-activity
 enum-known-activity c = search needs
 
--- src/astray.rt:27:31
 enum-known-activity-2 : tie.Need-enum-known-activity-2
 enum-known-activity-2 c = search needs
 
--- src/astray.rt:28:29
 enum-known-activity-3 : tie.Need-enum-known-activity-3
 enum-known-activity-3 c = search needs
 
--- src/astray.rt:29:30
 enum-known-activity-4 : tie.Need-enum-known-activity-4
 enum-known-activity-4 c = search needs
 
--- src/astray.rt:21:1
 returns : tie.Need-returns
 unfolding waitsDov
 returns c = simp (c .enum-told .given .1)
 
--- src/astray.rt:21:1
 returns-2 : tie.Need-returns-2
 unfolding waitsDov
 returns-2 c = simp (c .before .activity .given .1)
 
--- src/astray.rt:21:1
 returns-3 : tie.Need-returns-3
 unfolding waitsDov
 returns-3 c = simp (c .before .activity2 .given .1)
 
--- src/astray.rt:21:1
 returns-4 : tie.Need-returns-4
 unfolding waitsDov
 returns-4 c = simp (c .before .activity3 .given .1)
 
--- src/astray.rt:21:1
 returns-5 : tie.Need-returns-5
 unfolding waitsDov
 returns-5 c = simp (c .before .activity4 .given .1)

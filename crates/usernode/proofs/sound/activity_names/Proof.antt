@@ -1,51 +1,40 @@
+-- `usernode::sound::activity_names` meets its contract. On each way to a return, the tests and calls on the way choose the case of the definition.
 use Rattle.usernode.specs.Sound.{activityNames}
 use borrow.Author.Needs.{needs}
 use Rattle.usernode.proofs.sound.activity_names.Statement.{statement}
 use Rattle.usernode.proofs.sound.activity_names.Tie as tie
-use Rattle.usernode.proofs.sound.activity_names.Reads as reads
-use Rattle.usernode.proofs.sound.activity_names.Lts as lts
 
--- src/sound.rt:11:27
 enum-told : tie.Need-enum-told
 enum-told c = search needs
 
--- src/sound.rt:12:30
 enum-known-activity : tie.Need-enum-known-activity
 enum-known-activity c = search needs
 
--- src/sound.rt:13:31
 enum-known-activity-2 : tie.Need-enum-known-activity-2
 enum-known-activity-2 c = search needs
 
--- src/sound.rt:14:29
 enum-known-activity-3 : tie.Need-enum-known-activity-3
 enum-known-activity-3 c = search needs
 
--- src/sound.rt:15:30
 enum-known-activity-4 : tie.Need-enum-known-activity-4
 enum-known-activity-4 c = search needs
 
--- src/sound.rt:7:1
 returns : tie.Need-returns
 unfolding activityNames
 returns c = simp (c .enum-told .given .1)
 
--- src/sound.rt:7:1
 returns-2 : tie.Need-returns-2
 unfolding activityNames
 returns-2 c = simp (c .before .activity .given .1)
 
--- src/sound.rt:7:1
 returns-3 : tie.Need-returns-3
 unfolding activityNames
 returns-3 c = simp (c .before .activity2 .given .1)
 
--- src/sound.rt:7:1
 returns-4 : tie.Need-returns-4
 unfolding activityNames
 returns-4 c = simp (c .before .activity3 .given .1)
 
--- src/sound.rt:7:1
 returns-5 : tie.Need-returns-5
 unfolding activityNames
 returns-5 c = simp (c .before .activity4 .given .1)
