@@ -1,100 +1,76 @@
+-- `cars::car_names` meets its contract. On each way to a return, the tests and calls on the way choose the case of the definition.
 use Rattle.cars.specs.Cars.{carNames}
 use borrow.Author.Needs.{needs}
 use Rattle.cars.proofs.car_names.Statement.{statement}
 use Rattle.cars.proofs.car_names.Tie as tie
-use Rattle.cars.proofs.car_names.Reads as reads
-use Rattle.cars.proofs.car_names.Lts as lts
-use Rattle.cars.proofs.names.Reads as names-reads
-use Rattle.cars.proofs.notice_names.Reads as notice-names-reads
 
--- src/lib.rt:71:22
 enum-told : tie.Need-enum-told
 enum-told c = search needs
 
--- src/lib.rt:72:23
 enum-told-2 : tie.Need-enum-told-2
 enum-told-2 c = search needs
 
--- src/lib.rt:73:22
 enum-told-3 : tie.Need-enum-told-3
 enum-told-3 c = search needs
 
--- src/lib.rt:74:19
 enum-known-car : tie.Need-enum-known-car
 enum-known-car c = search needs
 
--- src/lib.rt:74:27
 names-requires : tie.Need-names-requires
 names-requires c κs = search needs
 
--- src/lib.rt:75:20
 enum-known-car-2 : tie.Need-enum-known-car-2
 enum-known-car-2 c = search needs
 
--- src/lib.rt:75:28
 names-requires-2 : tie.Need-names-requires-2
 names-requires-2 c κs = search needs
 
--- src/lib.rt:76:18
 enum-known-car-3 : tie.Need-enum-known-car-3
 enum-known-car-3 c = search needs
 
--- src/lib.rt:76:26
 names-requires-3 : tie.Need-names-requires-3
 names-requires-3 c κs = search needs
 
--- src/lib.rt:77:19
 enum-known-car-4 : tie.Need-enum-known-car-4
 enum-known-car-4 c = search needs
 
--- src/lib.rt:77:30
 notice-names-requires : tie.Need-notice-names-requires
 notice-names-requires c κs = search needs
 
--- src/lib.rt:78:19
 enum-known-car-5 : tie.Need-enum-known-car-5
 enum-known-car-5 c = search needs
 
--- src/lib.rt:78:30
 notice-names-requires-2 : tie.Need-notice-names-requires-2
 notice-names-requires-2 c κs = search needs
 
--- src/lib.rt:67:1
 returns : tie.Need-returns
 unfolding carNames
 returns c = simp (c .enum-told .given .1)
 
--- src/lib.rt:67:1
 returns-2 : tie.Need-returns-2
 unfolding carNames
 returns-2 c = simp (c .enum-told2 .given .1)
 
--- src/lib.rt:67:1
 returns-3 : tie.Need-returns-3
 unfolding carNames
 returns-3 c = simp (c .enum-told3 .given .1)
 
--- src/lib.rt:67:1
 returns-4 : tie.Need-returns-4
 unfolding carNames
 returns-4 c = simp (c .names .ensures, c .before .before .car .given .1)
 
--- src/lib.rt:67:1
 returns-5 : tie.Need-returns-5
 unfolding carNames
 returns-5 c = simp (c .names2 .ensures, c .before .before .car2 .given .1)
 
--- src/lib.rt:67:1
 returns-6 : tie.Need-returns-6
 unfolding carNames
 returns-6 c = simp (c .names3 .ensures, c .before .before .car3 .given .1)
 
--- src/lib.rt:67:1
 returns-7 : tie.Need-returns-7
 unfolding carNames
 returns-7 c = simp (c .notice-names .ensures, c .before .before .car4 .given .1)
 
--- src/lib.rt:67:1
 returns-8 : tie.Need-returns-8
 unfolding carNames
 returns-8 c = simp (c .notice-names2 .ensures, c .before .before .car5 .given .1)

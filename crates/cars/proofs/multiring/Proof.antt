@@ -1,11 +1,9 @@
+-- `cars::multiring` meets its contract. On each way to a return, the tests and calls on the way choose the case of the definition.
 use mathlib.Core.Path.{refl}
 use Rattle.cars.specs.Cars.{multiring}
 use Rattle.cars.proofs.multiring.Statement.{statement}
 use Rattle.cars.proofs.multiring.Tie as tie
-use Rattle.cars.proofs.multiring.Reads as reads
-use Rattle.cars.proofs.multiring.Lts as lts
 
--- src/lib.rt:30:1
 returns : tie.Need-returns
 unfolding multiring
 returns c = refl

@@ -1,15 +1,12 @@
+-- `junction::if_train` meets its contract. On each way to a return, the tests and calls on the way choose the case of the definition.
 use Rattle.junction.specs.Rules.{ifTrain}
 use Rattle.junction.proofs.if_train.Statement.{statement}
 use Rattle.junction.proofs.if_train.Tie as tie
-use Rattle.junction.proofs.if_train.Reads as reads
-use Rattle.junction.proofs.if_train.Lts as lts
 
--- src/lib.rt:72:9
 returns : tie.Need-returns
 unfolding ifTrain
 returns c = simp (c .if1 .taken)
 
--- src/lib.rt:68:1
 returns-2 : tie.Need-returns-2
 unfolding ifTrain
 returns-2 c = simp (c .if1 .left)

@@ -1,93 +1,72 @@
+-- `junction::outside` meets its contract. On each way to a return, the tests and calls on the way choose the case of the definition.
 use Rattle.junction.specs.Rules.{outside}
 use borrow.Author.Needs.{needs}
 use Rattle.junction.proofs.outside.Statement.{statement}
 use Rattle.junction.proofs.outside.Tie as tie
-use Rattle.junction.proofs.outside.Reads as reads
-use Rattle.junction.proofs.outside.Lts as lts
-use Rattle.words.proofs.has.Reads as has-reads
 
--- src/lib.rt:46:22
 enum-told : tie.Need-enum-told
 enum-told c = search needs
 
--- src/lib.rt:48:16
 enum-told-2 : tie.Need-enum-told-2
 enum-told-2 c = search needs
 
--- src/lib.rt:49:17
 returns : tie.Need-returns
 unfolding outside
 returns c = simp (c .if1 .taken, c .before .enum-told2 .given .1)
 
--- src/lib.rt:53:22
 enum-told-3 : tie.Need-enum-told-3
 enum-told-3 c = search needs
 
--- src/lib.rt:54:19
 enum-known-arrival : tie.Need-enum-known-arrival
 enum-known-arrival c = search needs
 
--- src/lib.rt:55:16
 has-requires : tie.Need-has-requires
 has-requires c κs = search needs
 
--- src/lib.rt:56:17
 returns-2 : tie.Need-returns-2
 unfolding outside
 returns-2 c = simp (c .if2 .taken, ← c .before .has .ensures, c .before .before .before .arrival .given .1)
 
--- src/lib.rt:60:20
 enum-known-arrival-2 : tie.Need-enum-known-arrival-2
 enum-known-arrival-2 c = search needs
 
--- src/lib.rt:61:18
 enum-known-arrival-3 : tie.Need-enum-known-arrival-3
 enum-known-arrival-3 c = search needs
 
--- src/lib.rt:62:19
 enum-known-arrival-4 : tie.Need-enum-known-arrival-4
 enum-known-arrival-4 c = search needs
 
--- src/lib.rt:63:19
 enum-known-arrival-5 : tie.Need-enum-known-arrival-5
 enum-known-arrival-5 c = search needs
 
--- src/lib.rt:42:1
 returns-3 : tie.Need-returns-3
 unfolding outside
 returns-3 c = simp (c .enum-told .given .1)
 
--- src/lib.rt:42:1
 returns-4 : tie.Need-returns-4
 unfolding outside
 returns-4 c = simp (c .if1 .left, c .before .enum-told2 .given .1)
 
--- src/lib.rt:42:1
 returns-5 : tie.Need-returns-5
 unfolding outside
 returns-5 c = simp (c .enum-told3 .given .1)
 
--- src/lib.rt:42:1
 returns-6 : tie.Need-returns-6
 unfolding outside
 returns-6 c = simp (c .if2 .left, ← c .before .has .ensures, c .before .before .before .arrival .given .1)
 
--- src/lib.rt:42:1
 returns-7 : tie.Need-returns-7
 unfolding outside
 returns-7 c = simp (c .before .arrival2 .given .1)
 
--- src/lib.rt:42:1
 returns-8 : tie.Need-returns-8
 unfolding outside
 returns-8 c = simp (c .before .arrival3 .given .1)
 
--- src/lib.rt:42:1
 returns-9 : tie.Need-returns-9
 unfolding outside
 returns-9 c = simp (c .before .arrival4 .given .1)
 
--- src/lib.rt:42:1
 returns-10 : tie.Need-returns-10
 unfolding outside
 returns-10 c = simp (c .before .arrival5 .given .1)

@@ -1,35 +1,26 @@
+-- `junction::Junction::sound` meets its contract. On each way to a return, the tests and calls on the way choose the case of the definition.
 use Rattle.junction.specs.Sound.{junctionSound}
 use borrow.Author.Needs.{needs}
 use Rattle.junction.proofs.Junction.sound.Statement.{statement}
 use Rattle.junction.proofs.Junction.sound.Tie as tie
-use Rattle.junction.proofs.Junction.sound.Reads as reads
-use Rattle.junction.proofs.Junction.sound.Lts as lts
-use Rattle.cars.proofs.car_names.Reads as car-names-reads
-use Rattle.words.proofs.all_below.Reads as all-below-reads
 
--- src/lib.rt:180:12
 car-names-requires : tie.Need-car-names-requires
 car-names-requires c κs = search needs
 
--- src/lib.rt:181:16
 car-names-requires-2 : tie.Need-car-names-requires-2
 car-names-requires-2 c κs = search needs
 
--- src/lib.rt:182:17
 all-below-requires : tie.Need-all-below-requires
 all-below-requires c κs = search needs
 
--- src/lib.rt:182:17
 returns : tie.Need-returns
 unfolding junctionSound
 returns c = simp (c .all-below .ensures, c .before .if2 .taken, ← c .before .before .car-names2 .ensures, c .before .before .before .if1 .taken, ← c .before .before .before .before .car-names .ensures)
 
--- src/lib.rt:184:13
 returns-2 : tie.Need-returns-2
 unfolding junctionSound
 returns-2 c = simp (c .if2 .left, ← c .before .car-names2 .ensures, c .before .before .if1 .taken, ← c .before .before .before .car-names .ensures)
 
--- src/lib.rt:175:5
 returns-3 : tie.Need-returns-3
 unfolding junctionSound
 returns-3 c = simp (c .if1 .left, ← c .before .car-names .ensures)

@@ -1,0 +1,264 @@
+-- `ring::State::walk` meets its contract. The outer loop's invariant: the walk so far is the definition's up to this position. The inner
+-- loop's: inside a subring it is the definition's up to this node of the subring, and so is what is known of who wants a train.
+use Prim.Native.Nat.{_-_}
+use borrow.Author.Needs.{needs}
+use mathlib.Core.Path.{ap, _∙_}
+use mathlib.Core.Bool.{Bool, _||_}
+use Rattle.plan.specs.Plan.{valueAt}
+use Rattle.ring.specs.State.{restNode, restJunction}
+use Rattle.ring.specs.Walk.{quiet, nodeHere, junctionHere, turnHere, intoSubring, setOut}
+use Rattle.ring.proofs.Walking.{walkOf, Around, Inside, around-start, around-node, node-turned, inside-start, inside-node, around-junction, junction-turned, walked}
+use Rattle.ring.proofs.State.walk.Statement.{statement}
+use Rattle.ring.proofs.State.walk.Tie as tie
+
+abbrev Inv-loop2 : tie.InvT-loop2
+Inv-loop2 self plan rules positions nodes₀ events₀ junctions last₀ astray₀ passed₀ turned place value junction arrival low wants₀ k₀ nodes events last astray passed wants k =
+    Inside self value low k wants (walkOf passed₀ turned last₀ astray₀ nodes₀ events₀ junctions) (walkOf passed turned last astray nodes events junctions)
+
+abbrev μ-loop2 : tie.MeasureT-loop2
+μ-loop2 self plan rules positions nodes₀ events₀ junctions last₀ astray₀ passed₀ turned place value junction arrival low wants₀ k₀ nodes events last astray passed wants k =
+    value - k
+
+abbrev Inv-loop : tie.InvT-loop
+Inv-loop self plan rules positions nodes₀ events₀ junctions₀ last₀ astray₀ passed₀ turned₀ place₀ nodes events junctions last astray passed turned place =
+    Around self place (walkOf passed turned last astray nodes events junctions)
+
+abbrev μ-loop : tie.MeasureT-loop
+μ-loop self plan rules positions nodes₀ events₀ junctions₀ last₀ astray₀ passed₀ turned₀ place₀ nodes events junctions last astray passed turned place =
+    positions - place
+
+loop-holds : tie.Need-loop-holds Inv-loop2 μ-loop2 Inv-loop μ-loop
+unfolding setOut quiet
+loop-holds c = around-start (c .before .before .before .before .args .t1) (c .before .before .before .before .pre)
+
+cast-value : tie.Need-cast-value Inv-loop2 μ-loop2 Inv-loop μ-loop
+cast-value c = search needs
+
+element-copy-out-value : tie.Need-element-copy-out-value Inv-loop2 μ-loop2 Inv-loop μ-loop
+element-copy-out-value c = search needs
+
+cast-node : tie.Need-cast-node Inv-loop2 μ-loop2 Inv-loop μ-loop
+cast-node c = search needs
+
+mul-node : tie.Need-mul-node Inv-loop2 μ-loop2 Inv-loop μ-loop
+mul-node c = search needs
+
+element-copy-out-node : tie.Need-element-copy-out-node Inv-loop2 μ-loop2 Inv-loop μ-loop
+element-copy-out-node c = search needs
+
+add-turn : tie.Need-add-turn Inv-loop2 μ-loop2 Inv-loop μ-loop
+add-turn c = search needs
+
+turn-requires : tie.Need-turn-requires Inv-loop2 μ-loop2 Inv-loop μ-loop
+turn-requires c κs = search needs
+
+add-astray : tie.Need-add-astray Inv-loop2 μ-loop2 Inv-loop μ-loop
+add-astray c = search needs
+
+astray-requires : tie.Need-astray-requires Inv-loop2 μ-loop2 Inv-loop μ-loop
+astray-requires c κs = search needs
+
+either-requires : tie.Need-either-requires Inv-loop2 μ-loop2 Inv-loop μ-loop
+either-requires c κs = search needs
+
+cast-nodes : tie.Need-cast-nodes Inv-loop2 μ-loop2 Inv-loop μ-loop
+cast-nodes c = search needs
+
+mul-nodes : tie.Need-mul-nodes Inv-loop2 μ-loop2 Inv-loop μ-loop
+mul-nodes c = search needs
+
+array-set-from-nodes : tie.Need-array-set-from-nodes Inv-loop2 μ-loop2 Inv-loop μ-loop
+array-set-from-nodes c = search needs
+
+cast-events : tie.Need-cast-events Inv-loop2 μ-loop2 Inv-loop μ-loop
+cast-events c = search needs
+
+mul-events : tie.Need-mul-events Inv-loop2 μ-loop2 Inv-loop μ-loop
+mul-events c = search needs
+
+array-set-from-events : tie.Need-array-set-from-events Inv-loop2 μ-loop2 Inv-loop μ-loop
+array-set-from-events c = search needs
+
+add-passed : tie.Need-add-passed Inv-loop2 μ-loop2 Inv-loop μ-loop
+add-passed c = search needs
+
+add-place : tie.Need-add-place Inv-loop2 μ-loop2 Inv-loop μ-loop
+add-place c = search needs
+
+loop-less : tie.Need-loop-less Inv-loop2 μ-loop2 Inv-loop μ-loop
+loop-less c = search needs
+
+loop-again : tie.Need-loop-again Inv-loop2 μ-loop2 Inv-loop μ-loop
+unfolding valueAt turnHere nodeHere restNode
+loop-again c = 
+    around-node _ _ _ (c .before .before .before .before .before .before .before .before .loop .inv) (c .before .before .before .before .before .before .before .loop-test .taken) _ (c .before .before .before .before .before .if1 .taken)
+    (node-turned _ _ _ _ _ (c .before .before .before .turn .ensures) (c .before .before .astray .ensures) (c .before .either .ensures))
+
+cast-junction : tie.Need-cast-junction Inv-loop2 μ-loop2 Inv-loop μ-loop
+cast-junction c = search needs
+
+mul-junction : tie.Need-mul-junction Inv-loop2 μ-loop2 Inv-loop μ-loop
+mul-junction c = search needs
+
+element-copy-out-junction : tie.Need-element-copy-out-junction Inv-loop2 μ-loop2 Inv-loop μ-loop
+element-copy-out-junction c = search needs
+
+loop2-holds : tie.Need-loop2-holds Inv-loop2 μ-loop2 Inv-loop μ-loop
+unfolding intoSubring junctionHere restJunction valueAt
+loop2-holds c = inside-start _ _ _ (c .before .before .before .before .loop .inv) (c .before .before .before .loop-test .taken) (c .before .before .before .before .before .before .before .before .before .pre)
+
+cast-node-2 : tie.Need-cast-node-2 Inv-loop2 μ-loop2 Inv-loop μ-loop
+cast-node-2 c = search needs
+
+mul-node-2 : tie.Need-mul-node-2 Inv-loop2 μ-loop2 Inv-loop μ-loop
+mul-node-2 c = search needs
+
+element-copy-out-node-2 : tie.Need-element-copy-out-node-2 Inv-loop2 μ-loop2 Inv-loop μ-loop
+element-copy-out-node-2 c = search needs
+
+add-turn-2 : tie.Need-add-turn-2 Inv-loop2 μ-loop2 Inv-loop μ-loop
+add-turn-2 c = search needs
+
+turn-requires-2 : tie.Need-turn-requires-2 Inv-loop2 μ-loop2 Inv-loop μ-loop
+turn-requires-2 c κs = search needs
+
+add-astray-2 : tie.Need-add-astray-2 Inv-loop2 μ-loop2 Inv-loop μ-loop
+add-astray-2 c = search needs
+
+astray-requires-2 : tie.Need-astray-requires-2 Inv-loop2 μ-loop2 Inv-loop μ-loop
+astray-requires-2 c κs = search needs
+
+either-requires-2 : tie.Need-either-requires-2 Inv-loop2 μ-loop2 Inv-loop μ-loop
+either-requires-2 c κs = search needs
+
+wants-train-requires : tie.Need-wants-train-requires Inv-loop2 μ-loop2 Inv-loop μ-loop
+wants-train-requires c κs = search needs
+
+either-requires-3 : tie.Need-either-requires-3 Inv-loop2 μ-loop2 Inv-loop μ-loop
+either-requires-3 c κs = search needs
+
+cast-nodes-2 : tie.Need-cast-nodes-2 Inv-loop2 μ-loop2 Inv-loop μ-loop
+cast-nodes-2 c = search needs
+
+mul-nodes-2 : tie.Need-mul-nodes-2 Inv-loop2 μ-loop2 Inv-loop μ-loop
+mul-nodes-2 c = search needs
+
+array-set-from-nodes-2 : tie.Need-array-set-from-nodes-2 Inv-loop2 μ-loop2 Inv-loop μ-loop
+array-set-from-nodes-2 c = search needs
+
+cast-events-2 : tie.Need-cast-events-2 Inv-loop2 μ-loop2 Inv-loop μ-loop
+cast-events-2 c = search needs
+
+mul-events-2 : tie.Need-mul-events-2 Inv-loop2 μ-loop2 Inv-loop μ-loop
+mul-events-2 c = search needs
+
+array-set-from-events-2 : tie.Need-array-set-from-events-2 Inv-loop2 μ-loop2 Inv-loop μ-loop
+array-set-from-events-2 c = search needs
+
+add-passed-2 : tie.Need-add-passed-2 Inv-loop2 μ-loop2 Inv-loop μ-loop
+add-passed-2 c = search needs
+
+add-k : tie.Need-add-k Inv-loop2 μ-loop2 Inv-loop μ-loop
+add-k c = search needs
+
+loop2-less : tie.Need-loop2-less Inv-loop2 μ-loop2 Inv-loop μ-loop
+loop2-less c = search needs
+
+loop2-again : tie.Need-loop2-again Inv-loop2 μ-loop2 Inv-loop μ-loop
+unfolding turnHere nodeHere restNode
+loop2-again c = 
+    inside-node _ _ _ _ _ _ _ _ _ (c .before .before .before .before .before .before .before .before .loop2 .inv) (c .before .before .before .before .before .before .before .loop2-test .taken) (c .before .either3 .ensures ∙ ap (λ (b : Bool). c .before .before .before .before .before .before .before .before .loop2 .wants || b) (c .before .before .wants-train .ensures))
+    (node-turned _ _ _ _ _ (c .before .before .before .before .before .turn2 .ensures) (c .before .before .before .before .astray2 .ensures) (c .before .before .before .either2 .ensures))
+
+turn-requires-3 : tie.Need-turn-requires-3 Inv-loop2 μ-loop2 Inv-loop μ-loop
+turn-requires-3 c κs = search needs
+
+cast-junctions : tie.Need-cast-junctions Inv-loop2 μ-loop2 Inv-loop μ-loop
+cast-junctions c = search needs
+
+mul-junctions : tie.Need-mul-junctions Inv-loop2 μ-loop2 Inv-loop μ-loop
+mul-junctions c = search needs
+
+array-set-from-junctions : tie.Need-array-set-from-junctions Inv-loop2 μ-loop2 Inv-loop μ-loop
+array-set-from-junctions c = search needs
+
+add-turned : tie.Need-add-turned Inv-loop2 μ-loop2 Inv-loop μ-loop
+add-turned c = search needs
+
+add-place-2 : tie.Need-add-place-2 Inv-loop2 μ-loop2 Inv-loop μ-loop
+add-place-2 c = search needs
+
+loop-less-2 : tie.Need-loop-less-2 Inv-loop2 μ-loop2 Inv-loop μ-loop
+loop-less-2 c = search needs
+
+loop-again-2 : tie.Need-loop-again-2 Inv-loop2 μ-loop2 Inv-loop μ-loop
+unfolding valueAt intoSubring junctionHere restJunction
+loop-again-2 c = 
+    around-junction _ _ _ _ _ _ _ (c .before .before .before .before .before .before .before .loop .inv) (c .before .before .before .before .before .before .loop-test .taken) (c .before .before .before .before .if1 .left) (c .before .before .loop2 .inv) (c .before .loop2-test .left)
+    (junction-turned _ _ _ _ _ _ _ _ (c .before .before .loop2 .inv) (c .before .loop2-test .left) (c .turn3 .ensures))
+
+returns : tie.Need-returns Inv-loop2 μ-loop2 Inv-loop μ-loop
+returns c = walked _ _ _ (c .before .loop .inv) (c .loop-test .left)
+
+pub walk-spec : {M : Type 1} → statement M
+walk-spec =
+    tie.close
+    (tie.spec
+    Inv-loop2
+    μ-loop2
+    Inv-loop
+    μ-loop
+    loop-holds
+    cast-value
+    element-copy-out-value
+    cast-node
+    mul-node
+    element-copy-out-node
+    add-turn
+    turn-requires
+    add-astray
+    astray-requires
+    either-requires
+    cast-nodes
+    mul-nodes
+    array-set-from-nodes
+    cast-events
+    mul-events
+    array-set-from-events
+    add-passed
+    add-place
+    loop-less
+    loop-again
+    cast-junction
+    mul-junction
+    element-copy-out-junction
+    loop2-holds
+    cast-node-2
+    mul-node-2
+    element-copy-out-node-2
+    add-turn-2
+    turn-requires-2
+    add-astray-2
+    astray-requires-2
+    either-requires-2
+    wants-train-requires
+    either-requires-3
+    cast-nodes-2
+    mul-nodes-2
+    array-set-from-nodes-2
+    cast-events-2
+    mul-events-2
+    array-set-from-events-2
+    add-passed-2
+    add-k
+    loop2-less
+    loop2-again
+    turn-requires-3
+    cast-junctions
+    mul-junctions
+    array-set-from-junctions
+    add-turned
+    add-place-2
+    loop-less-2
+    loop-again-2
+    returns)

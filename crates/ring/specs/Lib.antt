@@ -1,0 +1,5 @@
+pub mod State
+pub mod Sound
+pub mod Actions
+pub mod Walk
+pub mod Step

@@ -1,0 +1,90 @@
+// Take, release and force, with their refusals: 13 first, then 7 to 12.
+ghost use mathlib.Core.Path.{_≡_};
+ghost use Prim.Native.Nat.{_≤_};
+ghost use lib.Dec.{eqb};
+ghost use Rattle.usernode.specs.declared.Action.the-variants.{Take, Release, Force};
+ghost use Rattle.usernode.specs.Actions.{actionAnswerNumber};
+ghost use Rattle.ring.specs.Actions.{actionNumber, actedState, actionTold, actingSound, acting};
+use usernode::{Action, ActionAnswer};
+use crate::{Acted, State};
+
+// Whether an action was accepted.
+fn accepts(answer: ActionAnswer) -> bool
+    ensures { λ r. ⌜ r ≡ eqb (actionAnswerNumber answer) 0 ⌝ }
+{
+    usernode::answer_number(answer) == 0
+}
+
+impl State {
+    // The answer 7 to 12 to an action, or that it is accepted.
+    fn answer(self, action: Action, node: u8, lock: u8) -> ActionAnswer
+        ensures { λ r. ⌜ actionAnswerNumber r ≡ actionNumber action self node lock ⌝ }
+    {
+        let plan = self.plan;
+        if cars::is_node(plan.nodes(), node) {
+            if lock < plan.locks {
+                let place = (node - 1) as usize;
+                let acting = self.nodes[place];
+                return acting.answer(action, lock);
+            }
+            return ActionAnswer::NoSuchLock;
+        }
+        ActionAnswer::NoSuchNode
+    }
+
+    // The state in which the named node has acted.
+    fn acted_state(self, action: Action, node: u8, lock: u8) -> State
+        requires { ⌜ (1 ≤ node) × (node ≤ 64) ⌝ }
+        ensures { λ r. ⌜ r ≡ actedState action self node lock ⌝ }
+    {
+        let place = (node - 1) as usize;
+        let rules = self.plan.rules;
+        let acting = self.nodes[place];
+        let mut next = self;
+        next.nodes[place] = acting.acted(rules, action, lock);
+        next
+    }
+
+    // An action on a state that is known to pass 13: the refusals are 7 to 12.
+    pub fn act_sound(self, action: Action, node: u8, lock: u8) -> Acted
+        ensures { λ r. ⌜ actionTold r ≡ actingSound action self node lock ⌝ }
+    {
+        let answer = self.answer(action, node, lock);
+        if accepts(answer) {
+            let next = self.acted_state(action, node, lock);
+            return Acted { answer: answer, state: next };
+        }
+        Acted { answer: answer, state: self }
+    }
+
+    // An action on any state.
+    pub fn act(self, action: Action, node: u8, lock: u8) -> Acted
+        ensures { λ r. ⌜ actionTold r ≡ acting action self node lock ⌝ }
+    {
+        if self.sound() {
+            return self.act_sound(action, node, lock);
+        }
+        Acted { answer: ActionAnswer::BadState, state: self }
+    }
+
+    // Take: the node is to send a reqp.
+    pub fn take(self, node: u8, lock: u8) -> Acted
+        ensures { λ r. ⌜ actionTold r ≡ acting Take self node lock ⌝ }
+    {
+        self.act(Action::Take, node, lock)
+    }
+
+    // Release: the node gives up a lock that it holds.
+    pub fn release(self, node: u8, lock: u8) -> Acted
+        ensures { λ r. ⌜ actionTold r ≡ acting Release self node lock ⌝ }
+    {
+        self.act(Action::Release, node, lock)
+    }
+
+    // Force: the node is to send a dov.
+    pub fn force(self, node: u8, lock: u8) -> Acted
+        ensures { λ r. ⌜ actionTold r ≡ acting Force self node lock ⌝ }
+    {
+        self.act(Action::Force, node, lock)
+    }
+}

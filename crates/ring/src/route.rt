@@ -1,0 +1,78 @@
+// The walk through the senders in travelling order: every node and junction acts on the cars sent before the step.
+ghost use mathlib.Core.Path.{_≡_};
+ghost use mathlib.Core.Bool.{true, _||_};
+ghost use Rattle.plan.specs.Plan.{inRange};
+ghost use Rattle.ring.specs.Walk.{walk};
+use usernode::Event;
+use crate::{Happening, State, Walk};
+
+// Whether one of two things holds.
+fn either(a: bool, b: bool) -> bool
+    ensures { λ r. ⌜ r ≡ (a || b) ⌝ }
+{
+    if a {
+        return true;
+    }
+    b
+}
+
+impl State {
+    // Position by position; a junction is its subring car, its nodes, its main car.
+    pub(crate) fn walk(self) -> Walk
+        requires { ⌜ inRange (self .plan) ≡ true ⌝ }
+        ensures { λ r. ⌜ r ≡ walk self ⌝ }
+    {
+        let plan = self.plan;
+        let zeroth = self.zeroth;
+        let rules = plan.rules;
+        let positions = plan.positions;
+        let mut nodes = self.nodes;
+        let mut events = [Happening { event: Event::Nothing }; 64];
+        let mut junctions = self.junctions;
+        let mut last = zeroth.car;
+        let mut astray = false;
+        let mut passed: u8 = 0;
+        let mut turned: u8 = 0;
+        let mut place: u8 = 0;
+        while place < positions {
+            let value = plan.values[place as usize];
+            if value == 0 {
+                let node = self.nodes[passed as usize];
+                let turn = node.turn(rules, passed + 1, last);
+                astray = either(astray, node.astray(passed + 1, last));
+                let next = turn.node;
+                let event = turn.event;
+                nodes[passed as usize] = next;
+                events[passed as usize] = Happening { event: event };
+                last = node.car;
+                passed += 1;
+                place += 1;
+            } else {
+                let junction = self.junctions[turned as usize];
+                let arrival = last;
+                let low = passed;
+                let mut wants = false;
+                let mut k: u8 = 0;
+                last = junction.subring;
+                while k < value {
+                    let node = self.nodes[passed as usize];
+                    let turn = node.turn(rules, passed + 1, last);
+                    astray = either(astray, node.astray(passed + 1, last));
+                    wants = either(wants, node.wants_train());
+                    let next = turn.node;
+                    let event = turn.event;
+                    nodes[passed as usize] = next;
+                    events[passed as usize] = Happening { event: event };
+                    last = node.car;
+                    passed += 1;
+                    k += 1;
+                }
+                junctions[turned as usize] = junction.turn(low, passed, wants, arrival, last);
+                last = junction.main;
+                turned += 1;
+                place += 1;
+            }
+        }
+        Walk { passed: passed, turned: turned, last: last, astray: astray, nodes: nodes, events: events, junctions: junctions }
+    }
+}

@@ -1,0 +1,67 @@
+// The step, with its refusals: 13, 14, 15.
+ghost use mathlib.Core.Path.{_≡_};
+ghost use mathlib.Core.Bool.{true};
+ghost use Prim.Native.Nat.{_≤_};
+ghost use lib.ListN.{replicate};
+ghost use Rattle.plan.specs.Plan.{inRange};
+ghost use Rattle.ring.specs.Walk.{quiet};
+ghost use Rattle.ring.specs.Step.{stepTold, moving, stepping, steppingSound, stepAnswerNumber, refused};
+use usernode::Event;
+use crate::{Happening, State, StepAnswer, Stepped};
+
+impl State {
+    // The state as it was, with no events.
+    fn refused(self, answer: StepAnswer) -> Stepped
+        ensures { λ r. ⌜ stepTold r ≡ refused (stepAnswerNumber answer) self ⌝ }
+    {
+        let events = [Happening { event: Event::Nothing }; 64];
+        Stepped { answer: answer, state: self, events: events }
+    }
+
+    // A step of a state whose plan and queue count are in range.
+    fn moving(self) -> Stepped
+        requires { ⌜ inRange (self .plan) ≡ true ⌝ }
+        ensures { λ r. ⌜ stepTold r ≡ moving self ⌝ }
+    {
+        let plan = self.plan;
+        let zeroth = self.zeroth;
+        let walk = self.walk();
+        let arrival = walk.last;
+        if zeroth.overflows(arrival) {
+            return self.refused(StepAnswer::QueueFull);
+        }
+        if walk.astray {
+            return self.refused(StepAnswer::Astray);
+        }
+        let nodes = walk.nodes;
+        let junctions = walk.junctions;
+        let events = walk.events;
+        let next = State { plan: plan, zeroth: zeroth.turn(arrival), nodes: nodes, junctions: junctions };
+        Stepped { answer: StepAnswer::Done, state: next, events: events }
+    }
+
+    // A step of a state that is known to pass 13: only the plan and the queue's count are tested.
+    pub fn step_sound(self) -> Stepped
+        ensures { λ r. ⌜ stepTold r ≡ steppingSound self ⌝ }
+    {
+        let plan = self.plan;
+        let count = self.zeroth.count;
+        if plan.in_range() {
+            if count <= 65 {
+                return self.moving();
+            }
+            return self.refused(StepAnswer::BadState);
+        }
+        self.refused(StepAnswer::BadState)
+    }
+
+    // One step of any state.
+    pub fn step(self) -> Stepped
+        ensures { λ r. ⌜ stepTold r ≡ stepping self ⌝ }
+    {
+        if self.sound() {
+            return self.moving();
+        }
+        self.refused(StepAnswer::BadState)
+    }
+}
