@@ -58,7 +58,8 @@ impl Node {
         if source == me {
             return Rule::OwnReqp(tag.lock);
         }
-        if self.flag {
+        let flag = self.flag;
+        if flag {
             if self.had(tag.lock) {
                 return Rule::FailsReqp(tag);
             }

@@ -1,28 +1,30 @@
--- Two answers that keep a promise are equal: the promises of start, act, take, release, force and step leave nothing open.
+-- What a promise equates tells answers apart: the numbers of the enums, and what start, an action and a step tell.
 use Prim.Native.Nat.{ℕ, _-_}
 use mathlib.Core.Path.{_≡_, refl, sym, ap, _∙_}
 use mathlib.Core.List.{[], _∷_}
 use lib.ListN.{getD}
-use Rattle.plan.specs.declared.Plan.{Plan}
-use Rattle.usernode.specs.declared.Action.{Action}
 use Rattle.usernode.specs.declared.ActionAnswer.{ActionAnswer}
 use Rattle.usernode.specs.declared.ActionAnswer.the-variants.{Accepted, NoSuchNode, NoSuchLock, NotIdle, Holds, LettingGo, DoesNotHold, BadState}
 use Rattle.usernode.specs.Actions.{actionAnswerNumber}
-use Rattle.ring.specs.declared.State.{State}
 use Rattle.ring.specs.declared.PlanAnswer.{PlanAnswer}
 use Rattle.ring.specs.declared.PlanAnswer.the-variants.{InRange, OutOfRange}
 use Rattle.ring.specs.declared.StepAnswer.{StepAnswer}
 use Rattle.ring.specs.declared.StepAnswer.the-variants.{Done, BadState as Bad, QueueFull, Astray}
 use Rattle.ring.specs.declared.Started.{Started}
 use Rattle.ring.specs.declared.Acted.{Acted}
 use Rattle.ring.specs.declared.Stepped.{Stepped}
-use Rattle.ring.specs.State.{planAnswerNumber, startTold, starting}
-use Rattle.ring.specs.Actions.{actionTold, acting, actingSound}
-use Rattle.ring.specs.Step.{stepAnswerNumber, stepTold, stepping, steppingSound}
+use Rattle.ring.specs.State.{planAnswerNumber, startTold}
+use Rattle.ring.specs.Actions.{actionTold}
+use Rattle.ring.specs.Step.{stepAnswerNumber, stepTold}
+use Rattle.settled.specs.Settled.{Settled}
 
--- where f tells answers apart, two answers of which f tells the same are equal
-pub same : {A B : Type 0} (f : A → B) → ((x y : A) → f x ≡ f y → x ≡ y) → (a b : A) (d : B) → f a ≡ d → f b ≡ d → a ≡ b
-same f apart a b d p q = apart a b (p ∙ sym q)
+-- where f tells answers apart, a promise that fixes what f tells settles the answer: the one lemma behind every theorem of Model
+pub settled-by : {A B : Type 0} (f : A → B) → ((x y : A) → f x ≡ f y → x ≡ y) → (d : B) → Settled (λ r. f r ≡ d)
+settled-by f apart d a b p q = apart a b (p ∙ sym q)
+
+-- a promise that names the answer itself
+pub settled : {A : Type 0} (d : A) → Settled (λ r. r ≡ d)
+settled = settled-by (λ r. r) (λ x y e. e)
 
 -- f tells apart whatever can be read back
 read-back : {A B : Type 0} (f : A → B) (back : B → A) → ((x : A) → back (f x) ≡ x) → (x y : A) → f x ≡ f y → x ≡ y
@@ -62,7 +64,10 @@ step-answer Bad = refl
 step-answer QueueFull = refl
 step-answer Astray = refl
 
--- so what is told tells answers apart
+-- so numbers and what is told tell answers apart
+pub answer-apart : (x y : ActionAnswer) → actionAnswerNumber x ≡ actionAnswerNumber y → x ≡ y
+answer-apart = read-back actionAnswerNumber actionAnswer action-answer
+
 pub start-apart : (x y : Started) → startTold x ≡ startTold y → x ≡ y
 unfolding startTold
 start-apart = read-back startTold (λ t. record { answer = planAnswer (t .number); state = t .state })
@@ -77,23 +82,3 @@ pub step-apart : (x y : Stepped) → stepTold x ≡ stepTold y → x ≡ y
 unfolding stepTold
 step-apart = read-back stepTold (λ t. record { answer = stepAnswer (t .number); state = t .state; events = t .events })
     (λ x i. record { answer = step-answer (x .answer) i; state = x .state; events = x .events })
-
--- start
-pub start-once : (plan : Plan) (a b : Started) → startTold a ≡ starting plan → startTold b ≡ starting plan → a ≡ b
-start-once plan a b = same startTold start-apart a b (starting plan)
-
--- take, release and force, and any of them on a state known to pass 13
-pub action-once : (action : Action) (state : State) (node lock : ℕ) (a b : Acted) →
-    actionTold a ≡ acting action state node lock → actionTold b ≡ acting action state node lock → a ≡ b
-action-once action state node lock a b = same actionTold action-apart a b (acting action state node lock)
-
-pub act-sound-once : (action : Action) (state : State) (node lock : ℕ) (a b : Acted) →
-    actionTold a ≡ actingSound action state node lock → actionTold b ≡ actingSound action state node lock → a ≡ b
-act-sound-once action state node lock a b = same actionTold action-apart a b (actingSound action state node lock)
-
--- the step, and the step of a state known to pass 13
-pub step-once : (state : State) (a b : Stepped) → stepTold a ≡ stepping state → stepTold b ≡ stepping state → a ≡ b
-step-once state a b = same stepTold step-apart a b (stepping state)
-
-pub step-sound-once : (state : State) (a b : Stepped) → stepTold a ≡ steppingSound state → stepTold b ≡ steppingSound state → a ≡ b
-step-sound-once state a b = same stepTold step-apart a b (steppingSound state)

@@ -1,0 +1,62 @@
+-- The definitions that the worked runs compute with, opened together, crate by crate.
+use Prim.Native.Nat.{ℕ}
+use lib.Count.{trailingZeros}
+use Rattle.lists.specs.Loops.{every, some, total, iterate, inOrder}
+use Rattle.words.specs.Words.{has, withLock, withoutLock, least, allBelow}
+use Rattle.cars.specs.Cars.{multiring, isNode, names, noticeNames, carNames}
+use Rattle.plan.specs.Plan.{valueAt, valueInRange, placeInRange, headsInRange, inRange, sizeOf, junctionsOf, nodesBefore, junctionsBefore, nodeCount, junctionCount}
+use Rattle.usernode.specs.Actions.{wishNumber, releaseNumber, laterNumber, nodeNumber, busyWith, released, acted}
+use Rattle.usernode.specs.Astray.{waitsReqp, waitsDov, unready, astray}
+use Rattle.usernode.specs.Node.{had, isIdle, wantsTrain}
+use Rattle.usernode.specs.Rules.{onLetting, onGap, onIdle, onReqp, onFailp, onDov, rule}
+use Rattle.usernode.specs.Sound.{activityNames, lettingAllowed, nodeSound}
+use Rattle.usernode.specs.Turn.{flagAfter, becomes, grantCar, letGo, apply, eventOf, turn}
+use Rattle.zeronode.specs.Rules.{emptySlot, onToken, onHead, zeroRule, keeps}
+use Rattle.zeronode.specs.Sound.{placeNames, zeroSound}
+use Rattle.zeronode.specs.Turn.{shifted, headOff, sends, appended, arrives, zeroTurn, countLeft, overflows}
+use Rattle.junction.specs.Rules.{within, outside, ifTrain, onGotp, onDidv, inTour, junctionRule}
+use Rattle.junction.specs.Sound.{junctionSound}
+use Rattle.junction.specs.Turn.{shadow, joins, junctionApply, junctionTurn}
+use Rattle.ring.specs.Actions.{refusedIf, actionNumber, actedState, handedBack, actingSound, acting}
+use Rattle.ring.specs.Sound.{zeroPasses, nodePasses, junctionPasses, sound}
+use Rattle.ring.specs.State.{restNode, restJunction, startOf, smallPlan, startState, nodeOf}
+use Rattle.ring.specs.Step.{nextState, stepNumber, refused, done, moving, stepping}
+use Rattle.ring.specs.Walk.{quiet, nodeHere, junctionHere, turnHere, onNode, wanted, intoSubring, outOfSubring, onJunction, onPosition, setOut, walk}
+use Rattle.worked.specs.Cases.{ringPlan, junctionPlan, goesOn, p1, p2, p3, p4, p5, p6, p7, first, p8, p8-missing, p9, p10, p11, p12}
+use Rattle.worked.specs.Watch.{at, sight, isToken, happened, events, changes, junctionChanges, inStep, watchSteps, answer, watch, run}
+
+unfoldable pub of-lists : ℕ
+unfolding every some total iterate inOrder
+of-lists = 0
+
+unfoldable pub of-words : ℕ
+unfolding has withLock withoutLock least allBelow trailingZeros
+of-words = 0
+
+unfoldable pub of-cars : ℕ
+unfolding multiring isNode names noticeNames carNames
+of-cars = 0
+
+unfoldable pub of-plan : ℕ
+unfolding valueAt valueInRange placeInRange headsInRange inRange sizeOf junctionsOf nodesBefore junctionsBefore nodeCount junctionCount
+of-plan = 0
+
+unfoldable pub of-usernode : ℕ
+unfolding wishNumber releaseNumber laterNumber nodeNumber busyWith released acted waitsReqp waitsDov unready astray had isIdle wantsTrain onLetting onGap onIdle onReqp onFailp onDov rule activityNames lettingAllowed nodeSound flagAfter becomes grantCar letGo apply eventOf turn
+of-usernode = 0
+
+unfoldable pub of-zeronode : ℕ
+unfolding emptySlot onToken onHead zeroRule keeps placeNames zeroSound shifted headOff sends appended arrives zeroTurn countLeft overflows
+of-zeronode = 0
+
+unfoldable pub of-junction : ℕ
+unfolding within outside ifTrain onGotp onDidv inTour junctionRule junctionSound shadow joins junctionApply junctionTurn
+of-junction = 0
+
+unfoldable pub of-ring : ℕ
+unfolding refusedIf actionNumber actedState handedBack actingSound acting zeroPasses nodePasses junctionPasses sound restNode restJunction startOf smallPlan startState nodeOf nextState stepNumber refused done moving stepping quiet nodeHere junctionHere turnHere onNode wanted intoSubring outOfSubring onJunction onPosition setOut walk
+of-ring = 0
+
+unfoldable pub of-worked : ℕ
+unfolding ringPlan junctionPlan goesOn p1 p2 p3 p4 p5 p6 p7 first p8 p8-missing p9 p10 p11 p12 at sight isToken happened events changes junctionChanges inStep watchSteps answer watch run
+of-worked = 0
