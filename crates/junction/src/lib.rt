@@ -3,7 +3,9 @@ ghost use mathlib.Core.Path.{_≡_};
 ghost use Rattle.junction.specs.Rules.{within, outside, ifTrain, onGotp, onDidv, inTour, junctionRule};
 ghost use Rattle.junction.specs.Turn.{shadow, joins, junctionApply, junctionTurn};
 ghost use Rattle.junction.specs.Sound.{junctionSound};
-use cars::{Car, Notice, Tag};
+use cars::Car;
+use cars::Notice;
+use cars::Tag;
 
 // The car to the main ring, the car to the subring, the subring train flag, the local-tour flag, the lock word.
 pub struct Junction {
@@ -129,7 +131,13 @@ fn shadow(arrival: Car) -> Car
 fn joins(main: Car, subring: Car, train: bool, tour: bool, word: u64) -> Junction
     ensures { λ r. ⌜ r ≡ joins main subring train tour word ⌝ }
 {
-    Junction { main: main, subring: subring, train: train, tour: tour, word: word }
+    Junction {
+        main: main,
+        subring: subring,
+        train: train,
+        tour: tour,
+        word: word,
+    }
 }
 
 impl Junction {
@@ -157,8 +165,20 @@ impl Junction {
             JunctionRule::Drops => joins(Car::Idle, arrival, train, tour, word),
             JunctionRule::TokenOut => joins(Car::Token, arrival, true, tour, word),
             JunctionRule::CarOut => joins(out, arrival, train, tour, word),
-            JunctionRule::SetsBit(lock) => joins(out, arrival, train, tour, words::with_lock(word, lock)),
-            JunctionRule::ClearsBit(lock) => joins(out, arrival, train, tour, words::without_lock(word, lock)),
+            JunctionRule::SetsBit(lock) => joins(
+                out,
+                arrival,
+                train,
+                tour,
+                words::with_lock(word, lock),
+            ),
+            JunctionRule::ClearsBit(lock) => joins(
+                out,
+                arrival,
+                train,
+                tour,
+                words::without_lock(word, lock),
+            ),
             JunctionRule::Ends => joins(Car::Idle, arrival, false, false, word),
         }
     }

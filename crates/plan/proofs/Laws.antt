@@ -18,9 +18,14 @@ all-six a b c d e f six =
     let five = and-left (a && b && c && d && e) f six in
     let four = and-left (a && b && c && d) e five in
     let three = and-left (a && b && c) d four in
-    let two = and-left (a && b) c three in
-    (and-left a b two, and-right a b two, and-right (a && b) c three, and-right (a && b && c) d four,
-    and-right (a && b && c && d) e five, and-right (a && b && c && d && e) f six)
+    let two = and-left (a && b) c three in (
+      and-left a b two,
+      and-right a b two,
+      and-right (a && b) c three,
+      and-right (a && b && c) d four,
+      and-right (a && b && c && d) e five,
+      and-right (a && b && c && d && e) f six,
+    )
 
 -- the heads in range, each by itself
 pub heads-in-range : (plan : Plan) → headsInRange plan ≡ true →
@@ -28,7 +33,7 @@ pub heads-in-range : (plan : Plan) → headsInRange plan ≡ true →
 unfolding headsInRange
 heads-in-range plan e =
     let each = all-six (leb 1 (plan .rules)) (leb (plan .rules) 2) (leb 1 (plan .locks)) (leb (plan .locks) 64)
-        (leb 1 (plan .positions)) (leb (plan .positions) 16) e in
+    (leb 1 (plan .positions)) (leb (plan .positions) 16) e in
     (leb-true _ _ (each .0), leb-true _ _ (each .1), leb-true _ _ (each .2), leb-true _ _ (each .3), leb-true _ _ (each .4), leb-true _ _ (each .5))
 
 -- what a plan in range says of each of its values
@@ -46,10 +51,14 @@ unfolding inRange
 in-range plan e =
     let heads = heads-in-range plan (and-left (headsInRange plan) _ e) in
     record {
-      rules-least = heads .0; rules-most = heads .1;
-      locks-least = heads .2; locks-most = heads .3;
-      positions-least = heads .4; positions-most = heads .5;
-      values = and-right (headsInRange plan) _ e }
+      rules-least = heads .0;
+      rules-most = heads .1;
+      locks-least = heads .2;
+      locks-most = heads .3;
+      positions-least = heads .4;
+      positions-most = heads .5;
+      values = and-right (headsInRange plan) _ e;
+    }
 
 -- each value tested is at most 4
 pub value-at-most : (plan : Plan) (n place : ℕ) → every (placeInRange plan) n ≡ true → place < n → valueAt plan place ≤ 4

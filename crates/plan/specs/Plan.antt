@@ -7,6 +7,16 @@ use Rattle.lists.specs.Loops.{every, total}
 use Rattle.cars.specs.Cars.{multiring}
 use Rattle.plan.specs.declared.Plan.{Plan}
 
+-- the places kept for positions, user nodes and junctions: "Positions round the main ring: 1 to 16", "U at most 64"
+abbrev pub positionPlaces : ℕ
+positionPlaces = 16
+
+abbrev pub nodePlaces : ℕ
+nodePlaces = 64
+
+abbrev pub junctionPlaces : ℕ
+junctionPlaces = 16
+
 -- the value of a position, the first at place 0
 unfoldable pub valueAt : Plan → ℕ → ℕ
 valueAt plan place = getD (plan .values) place 0
@@ -26,7 +36,7 @@ headsInRange plan =
     && leb 1 (plan .locks)
     && leb (plan .locks) 64
     && leb 1 (plan .positions)
-    && leb (plan .positions) 16
+    && leb (plan .positions) positionPlaces
 
 -- all of that and each position's value. With at most 16 positions of at most 4 nodes "U at most 64" holds of itself.
 unfoldable pub inRange : Plan → Bool

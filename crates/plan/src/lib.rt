@@ -5,12 +5,19 @@ ghost use Prim.Native.Nat.{_≤_};
 ghost use Rattle.lists.specs.Loops.{every};
 ghost use Rattle.plan.specs.Plan.{valueInRange, placeInRange, headsInRange, inRange, sizeOf, junctionsOf, nodesBefore, junctionsBefore, nodeCount, junctionCount, planNumber};
 
+// The most positions, user nodes and junctions that a plan can have: the places that are kept for them.
+pub const POSITIONS: usize = 16;
+
+pub const NODES: usize = 64;
+
+pub const JUNCTIONS: usize = 16;
+
 // The positions' values stand at the first `positions` places of `values`.
 pub struct Plan {
     pub rules: u8,
     pub locks: u8,
     pub positions: u8,
-    pub values: [u8; 16],
+    pub values: [u8; POSITIONS],
 }
 
 // Whether the rules allow a position of this value.

@@ -69,7 +69,8 @@ passed state e =
       plan = and-left (inRange (state .plan)) (zeroPasses state count) two;
       zeroth = and-right (inRange (state .plan)) (zeroPasses state count) two;
       nodes = and-right (inRange (state .plan) && zeroPasses state count) nodes three;
-      junctions = and-right (inRange (state .plan) && zeroPasses state count && nodes) junctions e }
+      junctions = and-right (inRange (state .plan) && zeroPasses state count && nodes) junctions e;
+    }
 
 -- the plan is in range, and the queue has at most 65 cars
 pub sound-plan : (state : State) → sound state ≡ true → inRange (state .plan) ≡ true

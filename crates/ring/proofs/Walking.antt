@@ -129,7 +129,7 @@ around-junction state place before inside after k wants h l v i d e =
       most = h .most;
       passed-most = omega (arith, h .passed-most, i .passed, i .size-most);
       turned-most = omega (arith, h .turned-most);
-      so-far = next-so-far state place before h l after (rw (ne-eqb _ _ v) (e ∙ ap (outOfSubring state (valueAt (state .plan) place) before) (i .so-far ∙ ap (λ (n : ℕ). iterate (onNode state) n (intoSubring state before)) full)))
+      so-far = next-so-far state place before h l after (rw (ne-eqb _ _ v) (e ∙ ap (outOfSubring state (valueAt (state .plan) place) before) (i .so-far ∙ ap (λ (n : ℕ). iterate (onNode state) n (intoSubring state before)) full)));
     }
 
 -- all positions walked

@@ -33,7 +33,7 @@ actedState action state node lock =
       plan = state .plan;
       zeroth = state .zeroth;
       nodes = set (state .nodes) (node - 1) (acted (state .plan .rules) action (nodeOf state node) lock);
-      junctions = state .junctions
+      junctions = state .junctions;
     }
 
 -- "A refused action .. hands back the state it was given" (demand 1)

@@ -4,10 +4,10 @@ use mathlib.Core.Bool.{cond, false}
 use lib.ListN.{getD, replicate}
 use Rattle.cars.specs.declared.Car.the-variants.{Idle, Token}
 use Rattle.plan.specs.declared.Plan.{Plan}
-use Rattle.plan.specs.Plan.{inRange, planNumber}
+use Rattle.plan.specs.Plan.{positionPlaces, nodePlaces, junctionPlaces, inRange, planNumber}
 use Rattle.usernode.specs.declared.Node.{Node}
 use Rattle.usernode.specs.declared.Activity.the-variants.{Idle as Resting}
-use Rattle.zeronode.specs.Rules.{emptySlot}
+use Rattle.zeronode.specs.Rules.{queuePlaces, emptySlot}
 use Rattle.junction.specs.declared.Junction.{Junction}
 use Rattle.ring.specs.declared.State.{State}
 use Rattle.ring.specs.declared.Started.{Started}
@@ -26,14 +26,14 @@ unfoldable pub startOf : Plan → State
 startOf plan =
     record {
       plan = plan;
-      zeroth = record { car = Token; queue = replicate 65 emptySlot; count = 0 };
-      nodes = replicate 64 restNode;
-      junctions = replicate 16 restJunction
+      zeroth = record { car = Token; queue = replicate queuePlaces emptySlot; count = 0 };
+      nodes = replicate nodePlaces restNode;
+      junctions = replicate junctionPlaces restJunction;
     }
 
 -- "plan 1, 1, 1, 0": rules, locks, positions, their values
 unfoldable pub smallPlan : Plan
-smallPlan = record { rules = 1; locks = 1; positions = 1; values = replicate 16 0 }
+smallPlan = record { rules = 1; locks = 1; positions = 1; values = replicate positionPlaces 0 }
 
 -- 4: "a start state asked for such a plan is refused too, with the start state of plan 1, 1, 1, 0 beside it"
 unfoldable pub startState : Plan → State

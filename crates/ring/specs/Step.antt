@@ -4,7 +4,8 @@ use mathlib.Core.Bool.{Bool, cond, _&&_}
 use mathlib.Core.List.{List}
 use lib.Dec.{eqb, leb}
 use lib.ListN.{replicate}
-use Rattle.plan.specs.Plan.{inRange}
+use Rattle.plan.specs.Plan.{nodePlaces, inRange}
+use Rattle.zeronode.specs.Rules.{queuePlaces}
 use Rattle.zeronode.specs.Turn.{zeroTurn, overflows}
 use Rattle.ring.specs.declared.State.{State}
 use Rattle.ring.specs.declared.Happening.{Happening}
@@ -38,7 +39,7 @@ nextState state =
       plan = state .plan;
       zeroth = zeroTurn (state .zeroth) (walk state .last);
       nodes = walk state .nodes;
-      junctions = walk state .junctions
+      junctions = walk state .junctions;
     }
 
 -- 14 "the queue would need a 66th place", 15 "own reqp, failp or dov arrives and .."
@@ -47,7 +48,7 @@ stepNumber state = refusedIf (overflows (state .zeroth) (walk state .last)) 14 (
 
 -- "A refused .. step hands back the state it was given" (demand 1), with no events
 unfoldable pub refused : ℕ → State → StepTold
-refused number state = record { number = number; state = state; events = replicate 64 quiet }
+refused number state = record { number = number; state = state; events = replicate nodePlaces quiet }
 
 unfoldable pub done : State → StepTold
 done state = record { number = 0; state = nextState state; events = walk state .events }
@@ -63,4 +64,4 @@ stepping state = cond (sound state) (moving state) (refused 13 state)
 -- the step without the test of cars, activities and words: 13 only where the plan or the queue's count is out of range.
 -- On a state that passes 13 it is the step.
 unfoldable pub steppingSound : State → StepTold
-steppingSound state = cond (inRange (state .plan) && leb (state .zeroth .count) 65) (moving state) (refused 13 state)
+steppingSound state = cond (inRange (state .plan) && leb (state .zeroth .count) queuePlaces) (moving state) (refused 13 state)

@@ -5,7 +5,7 @@ use mathlib.Core.Bool.{Bool, cond, false, _||_}
 use lib.Dec.{eqb}
 use lib.ListN.{getD, set, replicate}
 use Rattle.lists.specs.Loops.{some, iterate, inOrder}
-use Rattle.plan.specs.Plan.{valueAt}
+use Rattle.plan.specs.Plan.{nodePlaces, valueAt}
 use Rattle.usernode.specs.declared.Node.{Node}
 use Rattle.usernode.specs.declared.Turn.{Turn}
 use Rattle.usernode.specs.declared.Event.the-variants.{Nothing}
@@ -44,7 +44,7 @@ onNode state walk =
       astray = walk .astray || astray (nodeHere state walk) (walk .passed + 1) (walk .last);
       nodes = set (walk .nodes) (walk .passed) (turnHere state walk .node);
       events = set (walk .events) (walk .passed) (record { event = turnHere state walk .event });
-      junctions = walk .junctions
+      junctions = walk .junctions;
     }
 
 -- "some node of its subring wants a train (.. before the step)": the nodes at this place and behind it, as many as there are
@@ -61,7 +61,7 @@ intoSubring state walk =
       astray = walk .astray;
       nodes = walk .nodes;
       events = walk .events;
-      junctions = walk .junctions
+      junctions = walk .junctions;
     }
 
 -- out of a subring: the junction's turn, with the arrival on the main side and the last car of the subring; its main car
@@ -76,7 +76,7 @@ outOfSubring state size before inside =
       nodes = inside .nodes;
       events = inside .events;
       junctions = set (before .junctions) (before .turned)
-        (junctionTurn (before .passed) (before .passed + size) (wanted state (before .passed) size) (before .last) (inside .last) (junctionHere state before))
+          (junctionTurn (before .passed) (before .passed + size) (wanted state (before .passed) size) (before .last) (inside .last) (junctionHere state before));
     }
 
 -- a junction with this many nodes on its subring
@@ -97,8 +97,8 @@ setOut state =
       last = state .zeroth .car;
       astray = false;
       nodes = state .nodes;
-      events = replicate 64 quiet;
-      junctions = state .junctions
+      events = replicate nodePlaces quiet;
+      junctions = state .junctions;
     }
 
 -- all positions of the plan; "The zero node follows the last position": it takes what the walk ends with

@@ -5,8 +5,10 @@ ghost use lib.Dec.{eqb};
 ghost use Rattle.usernode.specs.declared.Action.the-variants.{Take, Release, Force};
 ghost use Rattle.usernode.specs.Actions.{actionAnswerNumber};
 ghost use Rattle.ring.specs.Actions.{actionNumber, actedState, actionTold, actingSound, acting};
-use usernode::{Action, ActionAnswer};
-use crate::{Acted, State};
+use crate::Acted;
+use crate::State;
+use usernode::Action;
+use usernode::ActionAnswer;
 
 // Whether an action was accepted.
 fn accepts(answer: ActionAnswer) -> bool
@@ -52,9 +54,15 @@ impl State {
         let answer = self.answer(action, node, lock);
         if accepts(answer) {
             let next = self.acted_state(action, node, lock);
-            return Acted { answer: answer, state: next };
+            return Acted {
+                answer: answer,
+                state: next,
+            };
         }
-        Acted { answer: answer, state: self }
+        Acted {
+            answer: answer,
+            state: self,
+        }
     }
 
     // An action on any state.
@@ -64,7 +72,10 @@ impl State {
         if self.sound() {
             return self.act_sound(action, node, lock);
         }
-        Acted { answer: ActionAnswer::BadState, state: self }
+        Acted {
+            answer: ActionAnswer::BadState,
+            state: self,
+        }
     }
 
     // Take: the node is to send a reqp.

@@ -4,8 +4,12 @@ ghost use Rattle.ring.specs.State.{planAnswerNumber};
 ghost use Rattle.ring.specs.Step.{stepAnswerNumber};
 use cars::Car;
 use junction::Junction;
+use plan::JUNCTIONS;
+use plan::NODES;
 use plan::Plan;
-use usernode::{ActionAnswer, Event, Node};
+use usernode::ActionAnswer;
+use usernode::Event;
+use usernode::Node;
 use zeronode::ZeroNode;
 
 mod actions;
@@ -19,8 +23,8 @@ mod steps;
 pub struct State {
     pub plan: Plan,
     pub zeroth: ZeroNode,
-    pub nodes: [Node; 64],
-    pub junctions: [Junction; 16],
+    pub nodes: [Node; NODES],
+    pub junctions: [Junction; JUNCTIONS],
 }
 
 // The answer to a start that is asked: accepted, or 4.
@@ -58,7 +62,7 @@ pub enum StepAnswer {
 pub struct Stepped {
     pub answer: StepAnswer,
     pub state: State,
-    pub events: [Happening; 64],
+    pub events: [Happening; NODES],
 }
 
 // The walk through the senders: the nodes passed, the junctions turned, the car sent by the last sender met, whether an own
@@ -68,9 +72,9 @@ pub struct Walk {
     pub turned: u8,
     pub last: Car,
     pub astray: bool,
-    pub nodes: [Node; 64],
-    pub events: [Happening; 64],
-    pub junctions: [Junction; 16],
+    pub nodes: [Node; NODES],
+    pub events: [Happening; NODES],
+    pub junctions: [Junction; JUNCTIONS],
 }
 
 // The number of an answer to a start in 01; 0: accepted.

@@ -3,8 +3,11 @@ ghost use mathlib.Core.Path.{_≡_};
 ghost use mathlib.Core.Bool.{true, _||_};
 ghost use Rattle.plan.specs.Plan.{inRange};
 ghost use Rattle.ring.specs.Walk.{walk};
+use crate::Happening;
+use crate::State;
+use crate::Walk;
+use plan::NODES;
 use usernode::Event;
-use crate::{Happening, State, Walk};
 
 // Whether one of two things holds.
 fn either(a: bool, b: bool) -> bool
@@ -27,7 +30,9 @@ impl State {
         let rules = plan.rules;
         let positions = plan.positions;
         let mut nodes = self.nodes;
-        let mut events = [Happening { event: Event::Nothing }; 64];
+        let mut events = [Happening {
+            event: Event::Nothing,
+        }; NODES];
         let mut junctions = self.junctions;
         let mut last = zeroth.car;
         let mut astray = false;
@@ -73,6 +78,14 @@ impl State {
                 place += 1;
             }
         }
-        Walk { passed: passed, turned: turned, last: last, astray: astray, nodes: nodes, events: events, junctions: junctions }
+        Walk {
+            passed: passed,
+            turned: turned,
+            last: last,
+            astray: astray,
+            nodes: nodes,
+            events: events,
+            junctions: junctions,
+        }
     }
 }

@@ -6,16 +6,26 @@ ghost use lib.ListN.{replicate};
 ghost use Rattle.plan.specs.Plan.{inRange};
 ghost use Rattle.ring.specs.Walk.{quiet};
 ghost use Rattle.ring.specs.Step.{stepTold, moving, stepping, steppingSound, stepAnswerNumber, refused};
+use crate::Happening;
+use crate::State;
+use crate::StepAnswer;
+use crate::Stepped;
+use plan::NODES;
 use usernode::Event;
-use crate::{Happening, State, StepAnswer, Stepped};
 
 impl State {
     // The state as it was, with no events.
     fn refused(self, answer: StepAnswer) -> Stepped
         ensures { λ r. ⌜ stepTold r ≡ refused (stepAnswerNumber answer) self ⌝ }
     {
-        let events = [Happening { event: Event::Nothing }; 64];
-        Stepped { answer: answer, state: self, events: events }
+        let events = [Happening {
+            event: Event::Nothing,
+        }; NODES];
+        Stepped {
+            answer: answer,
+            state: self,
+            events: events,
+        }
     }
 
     // A step of a state whose plan and queue count are in range.
@@ -36,8 +46,17 @@ impl State {
         let nodes = walk.nodes;
         let junctions = walk.junctions;
         let events = walk.events;
-        let next = State { plan: plan, zeroth: zeroth.turn(arrival), nodes: nodes, junctions: junctions };
-        Stepped { answer: StepAnswer::Done, state: next, events: events }
+        let next = State {
+            plan: plan,
+            zeroth: zeroth.turn(arrival),
+            nodes: nodes,
+            junctions: junctions,
+        };
+        Stepped {
+            answer: StepAnswer::Done,
+            state: next,
+            events: events,
+        }
     }
 
     // A step of a state that is known to pass 13: only the plan and the queue's count are tested.

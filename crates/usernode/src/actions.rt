@@ -1,7 +1,10 @@
 // Take, release and force, at the node that is named: the numbers 9 to 12, and the node after an action that is accepted.
 ghost use mathlib.Core.Path.{_≡_};
 ghost use Rattle.usernode.specs.Actions.{actionAnswerNumber, wishNumber, releaseNumber, laterNumber, nodeNumber, busyWith, released, acted};
-use crate::{Action, ActionAnswer, Activity, Node};
+use crate::Action;
+use crate::ActionAnswer;
+use crate::Activity;
+use crate::Node;
 
 impl Node {
     // Take and force: 10 and 11.
@@ -54,7 +57,13 @@ impl Node {
         ensures { λ r. ⌜ r ≡ busyWith self activity ⌝ }
     {
         let car = self.car;
-        Node { car: car, flag: self.flag, activity: activity, held: self.held, letting: self.letting }
+        Node {
+            car: car,
+            flag: self.flag,
+            activity: activity,
+            held: self.held,
+            letting: self.letting,
+        }
     }
 
     // The node after an accepted action.

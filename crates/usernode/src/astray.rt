@@ -1,8 +1,10 @@
 // Number 15, of one node: an own car arrives that the node is not ready for.
 ghost use mathlib.Core.Path.{_≡_};
 ghost use Rattle.usernode.specs.Astray.{waitsReqp, waitsDov, unready, astray};
-use cars::{Car, Tag};
-use crate::{Activity, Node};
+use crate::Activity;
+use crate::Node;
+use cars::Car;
+use cars::Tag;
 
 // Whether this is waiting for a reqp for the lock.
 fn waits_reqp(activity: Activity, lock: u8) -> bool

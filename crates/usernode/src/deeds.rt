@@ -1,8 +1,14 @@
 // What a rule does: the car that the node sends, its flag, activity and words afterwards, and the event.
 ghost use mathlib.Core.Path.{_≡_};
 ghost use Rattle.usernode.specs.Turn.{flagAfter, becomes, grantCar, letGo, apply, eventOf, turn};
-use cars::{Car, Notice, Tag};
-use crate::{Activity, Event, Node, Rule, Turn};
+use crate::Activity;
+use crate::Event;
+use crate::Node;
+use crate::Rule;
+use crate::Turn;
+use cars::Car;
+use cars::Notice;
+use cars::Tag;
 
 // The in-train flag after a car was sent.
 fn flag_after(car: Car, flag: bool) -> bool
@@ -25,7 +31,10 @@ fn grant_car(rules: u8, me: u8, lock: u8) -> Car
     ensures { λ r. ⌜ r ≡ grantCar rules me lock ⌝ }
 {
     if cars::multiring(rules) {
-        return Car::Gotp(Notice { lock: lock, source: me });
+        return Car::Gotp(Notice {
+            lock: lock,
+            source: me,
+        });
     }
     Car::Null
 }
@@ -63,7 +72,13 @@ impl Node {
         ensures { λ r. ⌜ r ≡ becomes self car activity held letting ⌝ }
     {
         let flag = flag_after(car, self.flag);
-        Node { car: car, flag: flag, activity: activity, held: held, letting: letting }
+        Node {
+            car: car,
+            flag: flag,
+            activity: activity,
+            held: held,
+            letting: letting,
+        }
     }
 
     // The node after a rule.
@@ -75,14 +90,48 @@ impl Node {
         let letting = self.letting;
         match rule {
             Rule::Passes => self.becomes(arrival, doing, held, letting),
-            Rule::SendsReqp(lock) => self.becomes(Car::Reqp(Tag { lock: lock, source: me }), Activity::WaitingReqp(lock), held, letting),
-            Rule::SendsDov(lock) => self.becomes(Car::Dov(Tag { lock: lock, source: me }), Activity::WaitingDov(lock), held, letting),
-            Rule::SendsDidv(lock) => self.becomes(Car::Didv(Notice { lock: lock, source: me }), doing, held, words::without_lock(letting, lock)),
-            Rule::OwnReqp(lock) => self.becomes(grant_car(rules, me, lock), Activity::Idle, words::with_lock(held, lock), letting),
+            Rule::SendsReqp(lock) => self.becomes(
+                Car::Reqp(Tag {
+                    lock: lock,
+                    source: me,
+                }),
+                Activity::WaitingReqp(lock),
+                held,
+                letting,
+            ),
+            Rule::SendsDov(lock) => self.becomes(
+                Car::Dov(Tag {
+                    lock: lock,
+                    source: me,
+                }),
+                Activity::WaitingDov(lock),
+                held,
+                letting,
+            ),
+            Rule::SendsDidv(lock) => self.becomes(
+                Car::Didv(Notice {
+                    lock: lock,
+                    source: me,
+                }),
+                doing,
+                held,
+                words::without_lock(letting, lock),
+            ),
+            Rule::OwnReqp(lock) => self.becomes(
+                grant_car(rules, me, lock),
+                Activity::Idle,
+                words::with_lock(held, lock),
+                letting,
+            ),
             Rule::OwnFailp(lock) => self.becomes(Car::Null, Activity::Idle, held, letting),
             Rule::FailsReqp(tag) => self.becomes(Car::Failp(tag), doing, held, letting),
             Rule::OwnDov(lock) => self.becomes(Car::Null, Activity::Idle, held, letting),
-            Rule::LosesLock(tag) => self.becomes(Car::Dov(tag), doing, words::without_lock(held, tag.lock), let_go(rules, letting, tag.lock)),
+            Rule::LosesLock(tag) => self.becomes(
+                Car::Dov(tag),
+                doing,
+                words::without_lock(held, tag.lock),
+                let_go(rules, letting, tag.lock),
+            ),
         }
     }
 
@@ -91,6 +140,9 @@ impl Node {
         ensures { λ r. ⌜ r ≡ turn rules me arrival self ⌝ }
     {
         let rule = self.rule(me, arrival);
-        Turn { node: self.apply(rules, me, arrival, rule), event: event_of(rule) }
+        Turn {
+            node: self.apply(rules, me, arrival, rule),
+            event: event_of(rule),
+        }
     }
 }

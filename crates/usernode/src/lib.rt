@@ -4,7 +4,8 @@ ghost use mathlib.Core.Path.{_≡_};
 ghost use Rattle.usernode.specs.Node.{had, isIdle, wantsTrain};
 ghost use Rattle.usernode.specs.Turn.{eventLetter, eventLock};
 ghost use Rattle.usernode.specs.Actions.{actionAnswerNumber};
-use cars::{Car, Tag};
+use cars::Car;
+use cars::Tag;
 
 mod actions;
 mod astray;

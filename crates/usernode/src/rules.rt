@@ -1,8 +1,11 @@
 // Which of the nine rules fits a node and the car that arrives: the first that fits.
 ghost use mathlib.Core.Path.{_≡_};
 ghost use Rattle.usernode.specs.Rules.{onLetting, onGap, onIdle, onReqp, onFailp, onDov, rule};
-use cars::{Car, Tag};
-use crate::{Activity, Node, Rule};
+use crate::Activity;
+use crate::Node;
+use crate::Rule;
+use cars::Car;
+use cars::Tag;
 
 // Rule 3, where neither 1 nor 2 fits.
 fn on_letting(letting: u64) -> Rule

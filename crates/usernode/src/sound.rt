@@ -1,7 +1,8 @@
 // Number 13, of one node: nothing of it names what is missing, or what ring rules do not have.
 ghost use mathlib.Core.Path.{_≡_};
 ghost use Rattle.usernode.specs.Sound.{activityNames, lettingAllowed, nodeSound};
-use crate::{Activity, Node};
+use crate::Activity;
+use crate::Node;
 
 // Whether an activity names no missing lock.
 fn activity_names(locks: u8, activity: Activity) -> bool

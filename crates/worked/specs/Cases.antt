@@ -34,7 +34,7 @@ p2 =
     record {
       plan = ringPlan 1 1;
       moves = act Take 1 0 ∷ steps 6 ∷ [];
-      sights = at 0 token ∷ at 0 accepted ∷ at 4 token ∷ at 6 (event 1 (Granted 0)) ∷ []
+      sights = at 0 token ∷ at 0 accepted ∷ at 4 token ∷ at 6 (event 1 (Granted 0)) ∷ [];
     }
 
 -- P3 "Ring, U = 2, both take lock 0 at the start: G for node 1 in step 8, N for node 2 in step 10."
@@ -43,7 +43,7 @@ p3 =
     record {
       plan = ringPlan 1 2;
       moves = act Take 1 0 ∷ act Take 2 0 ∷ steps 10 ∷ [];
-      sights = at 0 token ∷ at 0 accepted ∷ at 0 accepted ∷ at 6 token ∷ at 8 (event 1 (Granted 0)) ∷ at 10 (event 2 (Failed 0)) ∷ []
+      sights = at 0 token ∷ at 0 accepted ∷ at 0 accepted ∷ at 6 token ∷ at 8 (event 1 (Granted 0)) ∷ at 10 (event 2 (Failed 0)) ∷ [];
     }
 
 -- P4 "P3, then node 2 forces lock 0 after step 10: L for node 1 in 15, B for node 2 in 16."
@@ -60,16 +60,16 @@ p5 =
       plan = junctionPlan;
       moves = act Take 1 0 ∷ steps 11 ∷ [];
       sights =
-        at 0 token
-        ∷ at 0 accepted
-        ∷ at 1 (begins 1)
-        ∷ at 5 (ends 1)
-        ∷ at 6 token
-        ∷ at 7 (begins 1)
-        ∷ at 9 (event 1 (Granted 0))
-        ∷ at 10 (word 1 1)
-        ∷ at 11 (ends 1)
-        ∷ []
+          at 0 token
+          ∷ at 0 accepted
+          ∷ at 1 (begins 1)
+          ∷ at 5 (ends 1)
+          ∷ at 6 token
+          ∷ at 7 (begins 1)
+          ∷ at 9 (event 1 (Granted 0))
+          ∷ at 10 (word 1 1)
+          ∷ at 11 (ends 1)
+          ∷ [];
     }
 
 -- P6 "P5, release after 11: D in 15; word cleared in 16; tour ends in 17."

@@ -1,4 +1,5 @@
 -- 01, "Zero node, with the car that arrives": which of (a), (b), (c) applies, and which arrivals it appends.
+use Prim.Native.Nat.{ℕ}
 use mathlib.Core.Bool.{Bool, true, false, cond}
 use lib.Dec.{eqb}
 use lib.ListN.{getD}
@@ -8,6 +9,10 @@ use Rattle.zeronode.specs.declared.Slot.{Slot}
 use Rattle.zeronode.specs.declared.ZeroNode.{ZeroNode}
 use Rattle.zeronode.specs.declared.ZeroRule.{ZeroRule}
 use Rattle.zeronode.specs.declared.ZeroRule.the-variants.{SendsIdle, SendsToken, SendsHead}
+
+-- "a queue of at most 65 cars"
+abbrev pub queuePlaces : ℕ
+queuePlaces = 65
 
 -- a place that is not in use: "idle"
 unfoldable pub emptySlot : Slot

@@ -7,7 +7,7 @@ use lib.ListN.{getD}
 use Rattle.lists.specs.Loops.{every}
 use Rattle.cars.specs.Cars.{carNames}
 use Rattle.zeronode.specs.declared.ZeroNode.{ZeroNode}
-use Rattle.zeronode.specs.Rules.{emptySlot}
+use Rattle.zeronode.specs.Rules.{queuePlaces, emptySlot}
 
 -- a place of the queue names nothing that is missing
 unfoldable pub placeNames : ℕ → ℕ → ℕ → ZeroNode → ℕ → Bool
@@ -15,6 +15,6 @@ placeNames rules nodes locks node place = carNames rules nodes locks (getD (node
 
 unfoldable pub zeroSound : ℕ → ℕ → ℕ → ZeroNode → Bool
 zeroSound rules nodes locks node =
-    leb (node .count) 65
+    leb (node .count) queuePlaces
     && carNames rules nodes locks (node .car)
     && every (placeNames rules nodes locks node) (node .count)

@@ -10,7 +10,7 @@ use Rattle.zeronode.specs.declared.Slot.{Slot}
 use Rattle.zeronode.specs.declared.ZeroNode.{ZeroNode}
 use Rattle.zeronode.specs.declared.ZeroRule.{ZeroRule}
 use Rattle.zeronode.specs.declared.ZeroRule.the-variants.{SendsIdle, SendsToken, SendsHead}
-use Rattle.zeronode.specs.Rules.{emptySlot, zeroRule, keeps}
+use Rattle.zeronode.specs.Rules.{queuePlaces, emptySlot, zeroRule, keeps}
 
 -- the head taken off: the cars behind it move up, "a place that the queue gives up becomes idle", and the places beyond the
 -- count stay as they were
@@ -30,7 +30,7 @@ sends node (SendsHead head) = headOff node head
 -- the arrival at the queue's end; a queue of 65 cars stays as it is (a step refuses that with 14)
 unfoldable pub appended : ZeroNode → Car → ZeroNode
 appended node arrival =
-    cond (ltb (node .count) 65)
+    cond (ltb (node .count) queuePlaces)
     (record { car = node .car; queue = set (node .queue) (node .count) (record { car = arrival }); count = node .count + 1 })
     node
 
@@ -40,7 +40,7 @@ arrives node arrival = cond (keeps arrival) (appended node arrival) node
 
 -- the zero node's turn in a step; a count over 65 leaves it as it is (a step refuses that with 13)
 unfoldable pub zeroTurn : ZeroNode → Car → ZeroNode
-zeroTurn node arrival = cond (leb (node .count) 65) (arrives (sends node (zeroRule node arrival)) arrival) node
+zeroTurn node arrival = cond (leb (node .count) queuePlaces) (arrives (sends node (zeroRule node arrival)) arrival) node
 
 -- how many cars are left when the head has been sent
 unfoldable pub countLeft : ZeroNode → ZeroRule → ℕ
@@ -50,4 +50,4 @@ countLeft node (SendsHead head) = node .count - 1
 
 -- 14: "the queue would need a 66th place"
 unfoldable pub overflows : ZeroNode → Car → Bool
-overflows node arrival = keeps arrival && leb 65 (countLeft node (zeroRule node arrival))
+overflows node arrival = keeps arrival && leb queuePlaces (countLeft node (zeroRule node arrival))

@@ -7,6 +7,9 @@ ghost use Rattle.zeronode.specs.Turn.{shifted, headOff, sends, appended,
 ghost use Rattle.zeronode.specs.Sound.{placeNames, zeroSound};
 use cars::Car;
 
+// The places of the queue.
+pub const PLACES: usize = 65;
+
 // One place of the queue.
 pub struct Slot {
     pub car: Car,
@@ -15,7 +18,7 @@ pub struct Slot {
 // The car it is sending, the queue with its head at place 0, and how many cars are in it.
 pub struct ZeroNode {
     pub car: Car,
-    pub queue: [Slot; 65],
+    pub queue: [Slot; PLACES],
     pub count: u8,
 }
 
@@ -75,7 +78,7 @@ pub fn keeps(arrival: Car) -> bool
 }
 
 // The queue without its head: the cars behind it move up, and the place given up becomes idle.
-fn shifted(queue: [Slot; 65], count: usize) -> [Slot; 65]
+fn shifted(queue: [Slot; PLACES], count: usize) -> [Slot; PLACES]
     requires { ⌜ (0 < count) × (count ≤ 65) ⌝ }
     ensures { λ r. ⌜ r ≡ shifted queue count ⌝ }
 {

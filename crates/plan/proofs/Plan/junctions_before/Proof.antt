@@ -27,9 +27,13 @@ add-junctions : tie.Need-add-junctions Inv-loop μ-loop
 unfolding valueAt
 add-junctions c =
     let start = c .before .before .before .before in
-    record { fits = omega (arith,
-      junctions-within (start .args .t1) (start .args .positions) (c .before .before .before .loop .i) (omega arith),
-      junctions-at-most (start .args .t1) (start .args .positions)) }
+    record {
+      fits = omega (
+        arith,
+        junctions-within (start .args .t1) (start .args .positions) (c .before .before .before .loop .i) (omega arith),
+        junctions-at-most (start .args .t1) (start .args .positions),
+      );
+    }
 
 add-i : tie.Need-add-i Inv-loop μ-loop
 add-i c = search needs

@@ -27,9 +27,13 @@ add-nodes : tie.Need-add-nodes Inv-loop μ-loop
 unfolding valueAt
 add-nodes c =
     let start = c .before .before .before .before in
-    record { fits = omega (arith,
-      nodes-within (start .args .t1) (start .args .positions) (c .before .before .before .loop .i) (omega arith),
-      nodes-at-most (start .args .t1) (start .args .positions) (start .pre .1)) }
+    record {
+      fits = omega (
+        arith,
+        nodes-within (start .args .t1) (start .args .positions) (c .before .before .before .loop .i) (omega arith),
+        nodes-at-most (start .args .t1) (start .args .positions) (start .pre .1),
+      );
+    }
 
 add-i : tie.Need-add-i Inv-loop μ-loop
 add-i c = search needs

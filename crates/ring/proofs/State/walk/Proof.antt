@@ -90,7 +90,7 @@ loop-less c = search needs
 
 loop-again : tie.Need-loop-again Inv-loop2 μ-loop2 Inv-loop μ-loop
 unfolding valueAt turnHere nodeHere restNode
-loop-again c = 
+loop-again c =
     around-node _ _ _ (c .before .before .before .before .before .before .before .before .loop .inv) (c .before .before .before .before .before .before .before .loop-test .taken) _ (c .before .before .before .before .before .if1 .taken)
     (node-turned _ _ _ _ _ (c .before .before .before .turn .ensures) (c .before .before .astray .ensures) (c .before .either .ensures))
 
@@ -166,7 +166,7 @@ loop2-less c = search needs
 
 loop2-again : tie.Need-loop2-again Inv-loop2 μ-loop2 Inv-loop μ-loop
 unfolding turnHere nodeHere restNode
-loop2-again c = 
+loop2-again c =
     inside-node _ _ _ _ _ _ _ _ _ (c .before .before .before .before .before .before .before .before .loop2 .inv) (c .before .before .before .before .before .before .before .loop2-test .taken) (c .before .either3 .ensures ∙ ap (λ (b : Bool). c .before .before .before .before .before .before .before .before .loop2 .wants || b) (c .before .before .wants-train .ensures))
     (node-turned _ _ _ _ _ (c .before .before .before .before .before .turn2 .ensures) (c .before .before .before .before .astray2 .ensures) (c .before .before .before .either2 .ensures))
 
@@ -193,7 +193,7 @@ loop-less-2 c = search needs
 
 loop-again-2 : tie.Need-loop-again-2 Inv-loop2 μ-loop2 Inv-loop μ-loop
 unfolding valueAt intoSubring junctionHere restJunction
-loop-again-2 c = 
+loop-again-2 c =
     around-junction _ _ _ _ _ _ _ (c .before .before .before .before .before .before .before .loop .inv) (c .before .before .before .before .before .before .loop-test .taken) (c .before .before .before .before .if1 .left) (c .before .before .loop2 .inv) (c .before .loop2-test .left)
     (junction-turned _ _ _ _ _ _ _ _ (c .before .before .loop2 .inv) (c .before .loop2-test .left) (c .turn3 .ensures))
 
