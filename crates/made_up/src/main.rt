@@ -1,0 +1,32 @@
+// Made-up states of the lock ring and how the model answers them, a line each: the numbers 4 and 7 to 15, their order, and
+// 01's "Readings that look right". The output was held against 01 by hand, so a change of code and definition together shows.
+mod acting;
+mod astray;
+mod four;
+mod look;
+mod make;
+mod missing;
+mod order;
+mod queue;
+mod readings;
+mod rules;
+mod say;
+mod thirteen;
+mod tours;
+mod unused;
+mod zero_node;
+
+fn main() {
+    four::show();
+    thirteen::show();
+    missing::show();
+    unused::show();
+    queue::show();
+    astray::show();
+    order::show();
+    acting::show();
+    readings::show();
+    rules::show();
+    tours::show();
+    zero_node::show();
+}
