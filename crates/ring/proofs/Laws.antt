@@ -16,7 +16,8 @@ use Rattle.usernode.specs.declared.Action.{Action}
 use Rattle.zeronode.specs.Sound.{zeroSound}
 use Rattle.ring.specs.declared.State.{State}
 use Rattle.ring.specs.Sound.{zeroPasses, nodePasses, junctionPasses, sound}
-use Rattle.ring.specs.Actions.{refusedIf, actionNumber, acting, actingSound}
+use Rattle.ring.specs.Actions.{actionNumber, acting, actingSound}
+use Rattle.lists.specs.Refusal.{refusedIf}
 use Rattle.ring.specs.Step.{stepping, steppingSound}
 
 -- what is 0 unless a test holds is bounded by its bound where the test holds

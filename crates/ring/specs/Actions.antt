@@ -3,6 +3,7 @@ use Prim.Native.Nat.{ℕ, _-_}
 use mathlib.Core.Bool.{Bool, cond, not}
 use lib.Dec.{eqb, ltb}
 use lib.ListN.{set}
+use Rattle.lists.specs.Refusal.{refusedIf}
 use Rattle.cars.specs.Cars.{isNode}
 use Rattle.plan.specs.Plan.{nodeCount}
 use Rattle.usernode.specs.declared.Action.{Action}
@@ -15,10 +16,6 @@ use Rattle.ring.specs.Sound.{sound}
 -- what an answer tells
 unfoldable pub actionTold : Acted → Told
 actionTold r = record { number = actionAnswerNumber (r .answer); state = r .state }
-
--- refused with this number where the test holds, else what comes later
-unfoldable pub refusedIf : Bool → ℕ → ℕ → ℕ
-refusedIf test number later = cond test number later
 
 -- 7 "node not 1 to U", 8 "lock not in the plan", then 9 to 12
 unfoldable pub actionNumber : Action → State → ℕ → ℕ → ℕ

@@ -4,6 +4,7 @@ use mathlib.Core.Bool.{Bool, cond, _&&_}
 use mathlib.Core.List.{List}
 use lib.Dec.{eqb, leb}
 use lib.ListN.{replicate}
+use Rattle.lists.specs.Refusal.{refusedIf}
 use Rattle.plan.specs.Plan.{nodePlaces, inRange}
 use Rattle.zeronode.specs.Rules.{queuePlaces}
 use Rattle.zeronode.specs.Turn.{zeroTurn, overflows}
@@ -13,7 +14,6 @@ use Rattle.ring.specs.declared.Stepped.{Stepped}
 use Rattle.ring.specs.declared.StepAnswer.{StepAnswer}
 use Rattle.ring.specs.declared.StepAnswer.the-variants.{Done, BadState, QueueFull, Astray}
 use Rattle.ring.specs.Sound.{sound}
-use Rattle.ring.specs.Actions.{refusedIf}
 use Rattle.ring.specs.Walk.{quiet, walk}
 
 -- the number of an answer; 0: done

@@ -2,6 +2,7 @@
 use Prim.Native.Nat.{ℕ}
 use lib.Count.{trailingZeros}
 use Rattle.lists.specs.Loops.{every, some, total, iterate, inOrder}
+use Rattle.lists.specs.Refusal.{refusedIf}
 use Rattle.words.specs.Words.{has, withLock, withoutLock, least, allBelow}
 use Rattle.cars.specs.Cars.{multiring, isNode, names, noticeNames, carNames}
 use Rattle.plan.specs.Plan.{valueAt, valueInRange, placeInRange, headsInRange, inRange, sizeOf, junctionsOf, nodesBefore, junctionsBefore, nodeCount, junctionCount}
@@ -17,7 +18,7 @@ use Rattle.zeronode.specs.Turn.{shifted, headOff, sends, appended, arrives, zer
 use Rattle.junction.specs.Rules.{within, outside, ifTrain, onGotp, onDidv, inTour, junctionRule}
 use Rattle.junction.specs.Sound.{junctionSound}
 use Rattle.junction.specs.Turn.{shadow, joins, junctionApply, junctionTurn}
-use Rattle.ring.specs.Actions.{refusedIf, actionNumber, actedState, handedBack, actingSound, acting}
+use Rattle.ring.specs.Actions.{actionNumber, actedState, handedBack, actingSound, acting}
 use Rattle.ring.specs.Sound.{zeroPasses, nodePasses, junctionPasses, sound}
 use Rattle.ring.specs.State.{restNode, restJunction, startOf, smallPlan, startState, nodeOf}
 use Rattle.ring.specs.Step.{nextState, stepNumber, refused, done, moving, stepping}
@@ -26,7 +27,7 @@ use Rattle.worked.specs.Cases.{ringPlan, junctionPlan, goesOn, p1, p2, p
 use Rattle.worked.specs.Watch.{at, sight, isToken, happened, events, changes, junctionChanges, inStep, watchSteps, answer, watch, run}
 
 unfoldable pub of-lists : ℕ
-unfolding every some total iterate inOrder
+unfolding every some total iterate inOrder refusedIf
 of-lists = 0
 
 unfoldable pub of-words : ℕ
@@ -54,7 +55,7 @@ unfolding within outside ifTrain onGotp onDidv inTour junctionRule junctionSound
 of-junction = 0
 
 unfoldable pub of-ring : ℕ
-unfolding refusedIf actionNumber actedState handedBack actingSound acting zeroPasses nodePasses junctionPasses sound restNode restJunction startOf smallPlan startState nodeOf nextState stepNumber refused done moving stepping quiet nodeHere junctionHere turnHere onNode wanted intoSubring outOfSubring onJunction onPosition setOut walk
+unfolding actionNumber actedState handedBack actingSound acting zeroPasses nodePasses junctionPasses sound restNode restJunction startOf smallPlan startState nodeOf nextState stepNumber refused done moving stepping quiet nodeHere junctionHere turnHere onNode wanted intoSubring outOfSubring onJunction onPosition setOut walk
 of-ring = 0
 
 unfoldable pub of-worked : ℕ

@@ -4,7 +4,8 @@ use mathlib.Core.Path.{sym, _∙_}
 use Rattle.ring.proofs.Laws.{node-place}
 use Rattle.usernode.specs.Actions.{actionAnswerNumber}
 use Rattle.ring.specs.State.{nodeOf, restNode}
-use Rattle.ring.specs.Actions.{actionNumber, refusedIf}
+use Rattle.ring.specs.Actions.{actionNumber}
+use Rattle.lists.specs.Refusal.{refusedIf}
 use borrow.Author.Tests.{le-ltb, lt-ltb}
 use borrow.Author.Needs.{needs}
 use Rattle.ring.proofs.State.answer.Statement.{statement}

@@ -1,5 +1,5 @@
 -- A step without 13: 14 where the queue would overflow, 15 where a car is astray, else what the walk leaves.
-use Rattle.ring.specs.Actions.{refusedIf}
+use Rattle.lists.specs.Refusal.{refusedIf}
 use Rattle.ring.specs.Step.{moving, stepTold, stepNumber, done, nextState, stepAnswerNumber}
 use borrow.Author.Needs.{needs}
 use Rattle.ring.proofs.State.moving.Statement.{statement}
