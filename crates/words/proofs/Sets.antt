@@ -71,11 +71,15 @@ module _ (op : ℕ → ℕ → ℕ) (on : Bool → Bool → Bool)
       ∙ ap (λ (d : ℕ). eqb d 1) (low _ _ 1 ∙ ap₂ op (digit-at a lock) (digit-at b lock))
       ∙ on-digits (has a lock) (has b lock)
 
+-- what is in one of two words is in their union
+pub has-or : (a b lock : ℕ) → has (bitOr a b) lock ≡ (has a lock || has b lock)
+has-or = has-op bitOr _||_ or-shr or-mod refl refl refl refl
+
 -- setting a lock adds it and changes no other
 pub has-with : (word lock other : ℕ) → lock < 64 → has (withLock word lock) other ≡ (has word other || eqb other lock)
 unfolding withLock
 has-with word lock other h =
-    rw (lt-ltb lock 64 h, ← has-power lock other) (has-op bitOr _||_ or-shr or-mod refl refl refl refl word (2 ^ lock) other)
+    rw (lt-ltb lock 64 h, ← has-power lock other) (has-or word (2 ^ lock) other)
 
 -- clearing a lock removes it and changes no other
 pub has-without : (word lock other : ℕ) → lock < 64 → has (withoutLock word lock) other ≡ (has word other && not (eqb other lock))

@@ -1,0 +1,191 @@
+// What a run counts for each lock: busy steps, grants and N events; and their sums.
+ghost use mathlib.Core.Path.{_≡_};
+ghost use Prim.Native.Nat.{ℕ, _+_, _-_, _^_, _≤_, _<_, min};
+ghost use Rattle.words.specs.Words.{has};
+ghost use Rattle.tally.specs.Tally.{emptyTally, more, counted, busy, busyCounts, eventTally, eventsTally, stepTally, sumOf};
+use plan::NODES;
+use ring::Happening;
+use usernode::Event;
+use usernode::Node;
+
+// The places kept for locks.
+pub const LOCKS: usize = 64;
+
+// One count a lock, of each kind.
+pub struct Tally {
+    pub busy: [u64; LOCKS],
+    pub grants: [u64; LOCKS],
+    pub failed: [u64; LOCKS],
+}
+
+// Nothing counted yet.
+pub fn empty_tally() -> Tally
+    ensures { λ r. ⌜ r ≡ emptyTally ⌝ }
+{
+    let zeros = [0u64; LOCKS];
+    Tally {
+        busy: zeros,
+        grants: zeros,
+        failed: zeros,
+    }
+}
+
+// One more; a count at its top stays there.
+fn more(count: u64) -> u64
+    ensures { λ r. ⌜ r ≡ more count ⌝ }
+{
+    if count < 18446744073709551615 {
+        return count + 1;
+    }
+    count
+}
+
+// One more of a lock.
+fn counted(counts: [u64; LOCKS], lock: u8) -> [u64; LOCKS]
+    ensures { λ r. ⌜ r ≡ counted counts lock ⌝ }
+{
+    if lock < 64 {
+        let mut next = counts;
+        next[lock as usize] = more(counts[lock as usize]);
+        return next;
+    }
+    counts
+}
+
+// A number, at most 64.
+fn at_most_64(number: u8) -> usize
+    ensures { λ r. ⌜ r ≡ min number 64 ⌝ }
+{
+    if number < 64 {
+        return number as usize;
+    }
+    64
+}
+
+// The locks that some of the first nodes hold.
+fn held_by_some(nodes: [Node; NODES], count: usize) -> u64
+    requires { ⌜ count ≤ 64 ⌝ }
+    ensures { λ r. ⌜ ((lock : ℕ) → has r lock ≡ busy nodes count lock) ⌝ }
+{
+    let mut word: u64 = 0;
+    let mut i = 0;
+    while i < count {
+        let node = nodes[i];
+        word = word | node.held;
+        i += 1;
+    }
+    word
+}
+
+// One more for each busy lock of the first locks.
+fn busy_counts(
+    nodes: [Node; NODES],
+    count: usize,
+    locks: usize,
+    counts: [u64; LOCKS],
+) -> [u64; LOCKS]
+    requires { ⌜ (count ≤ 64) × (locks ≤ 64) ⌝ }
+    ensures { λ r. ⌜ r ≡ busyCounts nodes count locks counts ⌝ }
+{
+    let word = held_by_some(nodes, count);
+    let mut next = counts;
+    let mut lock: usize = 0;
+    while lock < locks {
+        if words::has(word, lock as u8) {
+            next[lock] = more(next[lock]);
+            lock += 1;
+        } else {
+            lock += 1;
+        }
+    }
+    next
+}
+
+// One more grant or failure, by the event.
+fn event_tally(event: Event, tally: Tally) -> Tally
+    ensures { λ r. ⌜ r ≡ eventTally event tally ⌝ }
+{
+    let busy = tally.busy;
+    let grants = tally.grants;
+    let failed = tally.failed;
+    match event {
+        Event::Nothing => tally,
+        Event::Granted(lock) => Tally {
+            busy: busy,
+            grants: counted(grants, lock),
+            failed: failed,
+        },
+        Event::Failed(lock) => Tally {
+            busy: busy,
+            grants: grants,
+            failed: counted(failed, lock),
+        },
+        Event::Lost(lock) => tally,
+        Event::Back(lock) => tally,
+        Event::Sent(lock) => tally,
+    }
+}
+
+// The events of the first nodes.
+fn events_tally(events: [Happening; NODES], count: usize, tally: Tally) -> Tally
+    requires { ⌜ count ≤ 64 ⌝ }
+    ensures { λ r. ⌜ r ≡ eventsTally events count tally ⌝ }
+{
+    let mut next = tally;
+    let mut i = 0;
+    while i < count {
+        let happening = events[i];
+        let event = happening.event;
+        next = event_tally(event, next);
+        i += 1;
+    }
+    next
+}
+
+// What is counted after a step: its events, and who holds what then.
+pub fn step_tally(
+    nodes: [Node; NODES],
+    events: [Happening; NODES],
+    count: u8,
+    locks: u8,
+    tally: Tally,
+) -> Tally
+    ensures { λ r. ⌜ r ≡ stepTally nodes events count locks tally ⌝ }
+{
+    let those = at_most_64(count);
+    let told = events_tally(events, those, tally);
+    let counts = tally.busy;
+    let busy = busy_counts(nodes, those, at_most_64(locks), counts);
+    let grants = told.grants;
+    let failed = told.failed;
+    Tally {
+        busy: busy,
+        grants: grants,
+        failed: failed,
+    }
+}
+
+// A sum, at most the top.
+fn capped_sum(a: u64, b: u64) -> u64
+    ensures { λ r. ⌜ r ≡ min (a + b) (2 ^ 64 - 1) ⌝ }
+{
+    let room = 18446744073709551615 - a;
+    if b <= room {
+        return a + b;
+    }
+    18446744073709551615
+}
+
+// The sum of the first locks' counts, at most the top.
+pub fn sum_of(counts: [u64; LOCKS], locks: u8) -> u64
+    ensures { λ r. ⌜ r ≡ sumOf counts locks ⌝ }
+{
+    let those = at_most_64(locks);
+    let mut sum: u64 = 0;
+    let mut i = 0;
+    while i < those {
+        sum = capped_sum(sum, counts[i]);
+        i += 1;
+    }
+    sum
+}
