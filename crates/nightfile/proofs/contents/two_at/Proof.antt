@@ -1,0 +1,43 @@
+-- `two_at` gives `twoAt`: two bytes fit 16 bits.
+use borrow.Author.Needs.{needs}
+use Rattle.nightfile.specs.File.{twoAt}
+use Rattle.nightfile.proofs.contents.two_at.Statement.{statement}
+use Rattle.nightfile.proofs.contents.two_at.Tie as tie
+
+byte-at-requires : tie.Need-byte-at-requires
+byte-at-requires c κs = search needs
+
+add-byte-at : tie.Need-add-byte-at
+add-byte-at c = search needs
+
+byte-at-requires-2 : tie.Need-byte-at-requires-2
+byte-at-requires-2 c κs = search needs
+
+cast-result : tie.Need-cast-result
+cast-result c = search needs
+
+cast-result-2 : tie.Need-cast-result-2
+cast-result-2 c = search needs
+
+mul-result : tie.Need-mul-result
+mul-result c = search needs
+
+add-result : tie.Need-add-result
+add-result c = search needs
+
+returns : tie.Need-returns
+unfolding twoAt
+returns c = simp (c .byte-at2 .ensures, c .before .byte-at .ensures)
+
+pub two-at-spec : {M : Type 1} → statement M
+two-at-spec =
+    tie.close
+    (tie.spec
+    byte-at-requires
+    add-byte-at
+    byte-at-requires-2
+    cast-result
+    cast-result-2
+    mul-result
+    add-result
+    returns)
