@@ -2,6 +2,8 @@
 use Prim.Native.Nat.{ℕ, _-_}
 use mathlib.Core.Path.{_≡_, refl, sym, ap, _∙_}
 use mathlib.Core.List.{[], _∷_}
+use mathlib.Core.Bool.{cond}
+use lib.Dec.{eqb}
 use lib.ListN.{getD}
 use Rattle.usernode.specs.declared.ActionAnswer.{ActionAnswer}
 use Rattle.usernode.specs.declared.ActionAnswer.the-variants.{Accepted, NoSuchNode, NoSuchLock, NotIdle, Holds, LettingGo, DoesNotHold, BadState}
@@ -16,6 +18,12 @@ use Rattle.ring.specs.declared.Stepped.{Stepped}
 use Rattle.ring.specs.State.{planAnswerNumber, startTold}
 use Rattle.ring.specs.Actions.{actionTold}
 use Rattle.ring.specs.Step.{stepAnswerNumber, stepTold}
+use Rattle.nightfile.specs.declared.FileAnswer.{FileAnswer}
+use Rattle.nightfile.specs.declared.FileAnswer.the-variants.{Accepted as Taken, WrongLength, WrongContents, WrongPlanLength, PlanOutOfRange, BytesLeftOver, BadItem}
+use Rattle.nightfile.specs.File.{fileAnswerNumber}
+use Rattle.lines.specs.declared.Written.{Written}
+use Rattle.lines.specs.declared.Written.the-variants.{Length, TooShort}
+use Rattle.lines.specs.Line.{Told as LineTold, writtenNumber, writtenLength, writtenTold}
 use Rattle.settled.specs.Settled.{Settled}
 
 -- where f tells answers apart, a promise that fixes what f tells settles the answer: the one lemma behind every theorem of Model
@@ -64,7 +72,35 @@ step-answer Bad = refl
 step-answer QueueFull = refl
 step-answer Astray = refl
 
+fileAnswer : ℕ → FileAnswer
+fileAnswer number =
+    getD (Taken ∷ WrongLength ∷ WrongContents ∷ WrongPlanLength ∷ PlanOutOfRange ∷ BytesLeftOver ∷ BadItem ∷ []) number Taken
+
+file-answer : (x : FileAnswer) → fileAnswer (fileAnswerNumber x) ≡ x
+unfolding fileAnswer fileAnswerNumber
+file-answer Taken = refl
+file-answer WrongLength = refl
+file-answer WrongContents = refl
+file-answer WrongPlanLength = refl
+file-answer PlanOutOfRange = refl
+file-answer BytesLeftOver = refl
+file-answer BadItem = refl
+
+writtenAnswer : LineTold → Written
+writtenAnswer told = cond (eqb (told .number) 0) (Length (told .length)) TooShort
+
+written-answer : (x : Written) → writtenAnswer (writtenTold x) ≡ x
+unfolding writtenAnswer writtenTold writtenNumber writtenLength
+written-answer TooShort = refl
+written-answer (Length n) = refl
+
 -- so numbers and what is told tell answers apart
+pub file-apart : (x y : FileAnswer) → fileAnswerNumber x ≡ fileAnswerNumber y → x ≡ y
+file-apart = read-back fileAnswerNumber fileAnswer file-answer
+
+pub written-apart : (x y : Written) → writtenTold x ≡ writtenTold y → x ≡ y
+written-apart = read-back writtenTold writtenAnswer written-answer
+
 pub answer-apart : (x y : ActionAnswer) → actionAnswerNumber x ≡ actionAnswerNumber y → x ≡ y
 answer-apart = read-back actionAnswerNumber actionAnswer action-answer
 

@@ -1,0 +1,66 @@
+-- One theorem for each public function of the night file, the line writer and the tally: two answers that keep its promise are equal. A
+-- part of the caller's file is told by its bytes; a line's answer stands with the buffer's content.
+use Prim.Native.Nat.{ℕ}
+use mathlib.Core.Path.{_≡_}
+use mathlib.Core.List.{List}
+use Rattle.usernode.specs.declared.Node.{Node}
+use Rattle.ring.specs.declared.Happening.{Happening}
+use Rattle.nightfile.specs.declared.FileAnswer.{FileAnswer}
+use Rattle.nightfile.specs.declared.ItemAnswer.{ItemAnswer}
+use Rattle.nightfile.specs.File.{fileAnswerNumber, fileNumber, planPart, schedulePart, planOf}
+use Rattle.nightfile.specs.Items.{itemAnswerNumber, readAt}
+use Rattle.lines.specs.declared.Written.{Written}
+use Rattle.lines.specs.Line.{line, bufferAfter, writtenNumber, writtenTold, writing}
+use Rattle.tally.specs.declared.Tally.{Tally}
+use Rattle.tally.specs.Tally.{emptyTally, stepTally, sumOf}
+use Rattle.settled.specs.Settled.{Settled}
+use Rattle.settled.proofs.Apart.{settled, settled-by, file-apart, written-apart}
+
+-- nightfile
+pub file-number-settled : (answer : FileAnswer) → Settled (λ r. r ≡ fileAnswerNumber answer)
+file-number-settled answer = settled (fileAnswerNumber answer)
+
+pub item-number-settled : (answer : ItemAnswer) → Settled (λ r. r ≡ itemAnswerNumber answer)
+item-number-settled answer = settled (itemAnswerNumber answer)
+
+pub test-file-settled : (file : List ℕ) → Settled (λ r. fileAnswerNumber r ≡ fileNumber file)
+test-file-settled file = settled-by fileAnswerNumber file-apart (fileNumber file)
+
+pub plan-part-settled : (file : List ℕ) → Settled (λ r. r ≡ planPart file)
+plan-part-settled file = settled (planPart file)
+
+pub schedule-part-settled : (file : List ℕ) → Settled (λ r. r ≡ schedulePart file)
+schedule-part-settled file = settled (schedulePart file)
+
+pub read-plan-settled : (part : List ℕ) → Settled (λ r. r ≡ planOf part)
+read-plan-settled part = settled (planOf part)
+
+pub read-settled : (schedule : List ℕ) (at : ℕ) → Settled (λ r. r ≡ readAt schedule at)
+read-settled schedule at = settled (readAt schedule at)
+
+-- the item that the reader which holds the slice finds, and the place to which it moves
+pub item-settled : (schedule : List ℕ) (at : ℕ) → Settled (λ r. r ≡ readAt schedule at .answer)
+item-settled schedule at = settled (readAt schedule at .answer)
+
+pub moved-on-settled : (schedule : List ℕ) (at : ℕ) → Settled (λ r. r ≡ readAt schedule at .at)
+moved-on-settled schedule at = settled (readAt schedule at .at)
+
+-- lines
+pub written-number-settled : (written : Written) → Settled (λ r. r ≡ writtenNumber written)
+written-number-settled written = settled (writtenNumber written)
+
+pub write-line-settled : (buffer : List ℕ) (steps letter first second : ℕ) → Settled (λ r. writtenTold r ≡ writing buffer (line steps letter first second))
+write-line-settled buffer steps letter first second = settled-by writtenTold written-apart (writing buffer (line steps letter first second))
+
+pub written-buffer-settled : (buffer : List ℕ) (steps letter first second : ℕ) → Settled (λ r. r ≡ bufferAfter buffer (line steps letter first second))
+written-buffer-settled buffer steps letter first second = settled (bufferAfter buffer (line steps letter first second))
+
+-- tally
+pub empty-tally-settled : Settled (λ r. r ≡ emptyTally)
+empty-tally-settled = settled emptyTally
+
+pub step-tally-settled : (nodes : List Node) (events : List Happening) (count locks : ℕ) (tally : Tally) → Settled (λ r. r ≡ stepTally nodes events count locks tally)
+step-tally-settled nodes events count locks tally = settled (stepTally nodes events count locks tally)
+
+pub sum-of-settled : (counts : List ℕ) (locks : ℕ) → Settled (λ r. r ≡ sumOf counts locks)
+sum-of-settled counts locks = settled (sumOf counts locks)
