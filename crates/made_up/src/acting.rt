@@ -1,184 +1,157 @@
-// Take, release and force: the numbers 7 to 13, their order, and the node that is named afterwards. A refused action hands back
-// the state that it was given.
+// Take, release and force: the numbers 7 to 13, their order, and the node before and after. A refused action hands back the state
+// that it was given.
 use crate::look;
 use crate::make;
 use crate::say;
-use cars::Car;
 use ring::Acted;
 use ring::State;
-use usernode::Action;
 use usernode::Activity;
-use usernode::Node;
 
-fn act(state: State, action: Action, node: u8, lock: u8) -> Acted {
-    match action {
-        Action::Take => state.take(node, lock),
-        Action::Release => state.release(node, lock),
-        Action::Force => state.force(node, lock),
+// The node that is named, or node 1 where no place has the number.
+fn named(state: State, node: u8) {
+    if cars::is_node(64, node) {
+        say::activity_and_words(look::node_of(state, node));
+    } else {
+        say::text(b", node 1");
+        say::activity_and_words(look::node_of(state, 1));
     }
 }
 
-fn say_action(action: Action) {
-    match action {
-        Action::Take => say::text(b"take"),
-        Action::Release => say::text(b"release"),
-        Action::Force => say::text(b"force"),
-    }
+// What an action is asked of.
+fn asked(lead: &[u8], state: State, node: u8, lock: u8) {
+    say::number(lead, node);
+    say::number(b" lock ", lock);
+    named(state, node);
 }
 
-// The number of the answer, and a node of the state that is handed back.
-fn line(label: &[u8], state: State, action: Action, node: u8, lock: u8, shown: u8) {
-    let acted = act(state, action, node, lock);
+// The number, and the node in the state that is handed back.
+fn answered(acted: Acted, node: u8) {
     let answer = acted.answer;
-    let next = acted.state;
-    say::text(b"action, ");
-    say::text(label);
-    say::text(b", ");
-    say_action(action);
-    say::text(b" node ");
-    say::number(node);
-    say::text(b" lock ");
-    say::number(lock);
-    say::text(b": ");
-    say::number(usernode::answer_number(answer));
-    say::text(b", node ");
-    say::number(shown);
-    say::text(b" ");
-    say::wishes(look::node_of(next, shown));
+    let state = acted.state;
+    say::number(b": ", usernode::answer_number(answer));
+    named(state, node);
     say::line_end();
 }
 
+fn take(state: State, node: u8, lock: u8) {
+    asked(b"take node ", state, node, lock);
+    answered(state.take(node, lock), node);
+}
+
+fn release(state: State, node: u8, lock: u8) {
+    asked(b"release node ", state, node, lock);
+    answered(state.release(node, lock), node);
+}
+
+fn force(state: State, node: u8, lock: u8) {
+    asked(b"force node ", state, node, lock);
+    answered(state.force(node, lock), node);
+}
+
 // The three actions.
-fn each(label: &[u8], state: State, node: u8, lock: u8, shown: u8) {
-    line(label, state, Action::Take, node, lock, shown);
-    line(label, state, Action::Release, node, lock, shown);
-    line(label, state, Action::Force, node, lock, shown);
+fn each(state: State, node: u8, lock: u8) {
+    take(state, node, lock);
+    release(state, node, lock);
+    force(state, node, lock);
 }
 
-// A plain ring whose node 1 is this.
+// Two nodes, four locks, node 1 as given.
 fn state_with(rules: u8, activity: Activity, held: u64, letting: u64) -> State {
-    let node = Node {
-        car: Car::Null,
-        flag: true,
-        activity: activity,
-        held: held,
-        letting: letting,
-    };
-    make::with_node(make::plain(rules), 1, node)
+    make::with_node(
+        make::plain(rules, 4),
+        1,
+        make::node_with(true, activity, held, letting),
+    )
 }
 
-fn accepted() {
-    each(b"rests", state_with(2, Activity::Idle, 0, 0), 1, 3, 1);
-    each(
-        b"holds the lock under ring rules",
-        state_with(1, Activity::Idle, 9, 0),
-        1,
-        3,
-        1,
-    );
-    each(
-        b"holds the lock under multiring rules",
-        state_with(2, Activity::Idle, 9, 2),
-        1,
-        3,
-        1,
-    );
-    each(
-        b"is letting the lock go",
-        state_with(2, Activity::Idle, 1, 8),
-        1,
-        3,
-        1,
-    );
-    each(
-        b"is letting another lock go",
-        state_with(2, Activity::Idle, 1, 6),
-        1,
-        3,
-        1,
-    );
+// Lock 3 is bit 8. Last the node holds what it lets go, and it holds a lock and waits.
+fn at_node() {
+    each(state_with(2, Activity::Idle, 0, 0), 1, 3);
+    each(state_with(1, Activity::Idle, 9, 0), 1, 3);
+    each(state_with(2, Activity::Idle, 9, 2), 1, 3);
+    each(state_with(2, Activity::Idle, 1, 8), 1, 3);
+    each(state_with(2, Activity::Idle, 1, 6), 1, 3);
+    each(state_with(2, Activity::ToSendReqp(1), 0, 0), 1, 3);
+    each(state_with(2, Activity::WaitingReqp(1), 0, 0), 1, 3);
+    each(state_with(2, Activity::ToSendDov(1), 0, 0), 1, 3);
+    each(state_with(2, Activity::WaitingDov(1), 0, 0), 1, 3);
+    release(state_with(2, Activity::Idle, 8, 8), 1, 3);
+    release(state_with(2, Activity::WaitingDov(1), 8, 0), 1, 3);
 }
 
-fn busy() {
-    each(
-        b"to send a reqp",
-        state_with(2, Activity::ToSendReqp(1), 0, 0),
-        1,
-        3,
-        1,
-    );
-    each(
-        b"waiting for a reqp",
-        state_with(2, Activity::WaitingReqp(1), 0, 0),
-        1,
-        3,
-        1,
-    );
-    each(
-        b"to send a dov",
-        state_with(2, Activity::ToSendDov(1), 0, 0),
-        1,
-        3,
-        1,
-    );
-    each(
-        b"waiting for a dov",
-        state_with(2, Activity::WaitingDov(1), 0, 0),
-        1,
-        3,
-        1,
-    );
-}
-
-// What is missing: nodes 0, 3 and 255, locks 4 and 255; node 3's place is not in use.
+// Nodes 0, 3 and 255, locks 4 and 255; the place of node 3 is not in use and holds lock 3.
 fn missing() {
-    let state = make::with_node(make::plain(2), 3, make::node_with_words(true, 8, 0));
-    each(b"node 0", state, 0, 3, 1);
-    each(b"one node too many", state, 3, 3, 3);
-    each(b"node 255", state, 255, 3, 1);
-    each(b"one lock too many", state, 2, 4, 2);
-    each(b"lock 255", state, 2, 255, 2);
+    let state = make::with_node(
+        make::plain(2, 4),
+        3,
+        make::node_with(true, Activity::Idle, 8, 0),
+    );
+    each(state, 0, 3);
+    each(state, 3, 3);
+    each(state, 255, 3);
+    each(state, 2, 4);
+    each(state, 2, 255);
 }
 
+// The line that follows meets two numbers.
+fn against(first: u8, second: u8) {
+    say::number(b"order ", first);
+    say::number(b" against ", second);
+    say::text(b", ");
+}
+
+// The three actions, each with two numbers to meet.
+fn each_against(first: u8, second: u8, state: State, node: u8, lock: u8) {
+    against(first, second);
+    take(state, node, lock);
+    against(first, second);
+    release(state, node, lock);
+    against(first, second);
+    force(state, node, lock);
+}
+
+// The same of take and force.
+fn wishes_against(first: u8, second: u8, state: State, node: u8, lock: u8) {
+    against(first, second);
+    take(state, node, lock);
+    against(first, second);
+    force(state, node, lock);
+}
+
+// The same of release.
+fn release_against(first: u8, second: u8, state: State, node: u8, lock: u8) {
+    against(first, second);
+    release(state, node, lock);
+}
+
+// In the first state the last node has a lock that is missing.
 fn order() {
     let bad = make::with_node(
         state_with(2, Activity::Idle, 1, 0),
         2,
-        make::node_with_words(false, 16, 0),
+        make::node_with(false, Activity::Idle, 16, 0),
     );
-    let waiting = Activity::WaitingDov(1);
-    each(b"13 against 7", bad, 0, 0, 1);
-    each(b"13 against 8", bad, 1, 4, 1);
-    each(b"13 against 10 and 0", bad, 1, 0, 1);
-    each(b"7 against 8", make::plain(2), 3, 4, 3);
-    each(b"8 against 9", state_with(2, waiting, 0, 0), 1, 4, 1);
-    each(
-        b"8 against 12 and 0",
-        state_with(2, Activity::Idle, 1, 2),
-        1,
-        4,
-        1,
-    );
-    each(b"9 against 10 and 0", state_with(2, waiting, 1, 0), 1, 0, 1);
-    each(
-        b"9 against 11 and 12",
-        state_with(2, waiting, 0, 1),
-        1,
-        0,
-        1,
-    );
-    each(
-        b"10 against 11",
-        state_with(2, Activity::Idle, 1, 1),
-        1,
-        0,
-        1,
-    );
+    let waiting = state_with(2, Activity::WaitingDov(1), 1, 0);
+    each_against(13, 7, bad, 0, 0);
+    each_against(13, 8, bad, 1, 4);
+    wishes_against(13, 10, bad, 1, 0);
+    release_against(13, 12, bad, 1, 1);
+    each_against(7, 8, waiting, 3, 4);
+    each_against(8, 9, waiting, 1, 4);
+    release_against(8, 12, state_with(2, Activity::Idle, 1, 2), 1, 4);
+}
+
+fn order_at_node() {
+    let letting = state_with(2, Activity::WaitingReqp(1), 0, 1);
+    wishes_against(9, 10, state_with(2, Activity::WaitingDov(1), 1, 0), 1, 0);
+    wishes_against(9, 11, letting, 1, 0);
+    release_against(9, 12, letting, 1, 0);
+    wishes_against(10, 11, state_with(2, Activity::Idle, 1, 1), 1, 0);
 }
 
 pub fn show() {
-    accepted();
-    busy();
+    at_node();
     missing();
     order();
+    order_at_node();
 }

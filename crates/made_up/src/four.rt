@@ -1,78 +1,67 @@
 // Number 4: starts that are asked of plans out of range and of plans at the edges of it, with the start state beside the number.
-use crate::look;
 use crate::make;
 use crate::say;
 use plan::Plan;
+use ring::Started;
 use ring::State;
 
-// The number, and of the state beside it the plan and the zero node's car.
-fn line(label: &[u8], plan: Plan) {
-    let started = State::start(plan);
+// A plan, with one of its values.
+pub fn say_plan(lead: &[u8], plan: Plan, value: u8) {
+    say::number(lead, plan.rules);
+    say::number(b", locks ", plan.locks);
+    say::number(b", positions ", plan.positions);
+    say::number(b", value ", value);
+}
+
+// The number, and of the state beside it the plan with its first value, and the zero node's car.
+fn say_start(started: Started) {
     let answer = started.answer;
     let state = started.state;
-    let beside = state.plan;
-    say::text(b"4 start, ");
-    say::text(label);
-    say::text(b": ");
-    say::number(ring::plan_number(answer));
-    say::text(b", rules ");
-    say::number(beside.rules);
-    say::text(b", locks ");
-    say::number(beside.locks);
-    say::text(b", positions ");
-    say::number(beside.positions);
-    say::text(b", first value ");
-    say::number(beside.values[0]);
-    say::text(b", zero node sends ");
-    say::the_car(look::zeroth_car(state));
+    let plan = state.plan;
+    let zeroth = state.zeroth;
+    let car = zeroth.car;
+    say::number(b": ", ring::plan_number(answer));
+    say_plan(b", beside it rules ", plan, plan.values[0]);
+    say::the_car(b", zero node sends ", car);
     say::line_end();
 }
 
-// A multiring plan with a junction at its first and last position, but for what is given.
-fn plan_with(rules: u8, locks: u8, positions: u8) -> Plan {
-    let values = make::five_values(2, 0, 1, 0, 0);
-    Plan {
+// The plan with its third value, and what its start answers.
+fn line(rules: u8, locks: u8, positions: u8, first: u8, third: u8) {
+    let values = make::five_values(first, 0, third, 0, 0);
+    let plan = Plan {
         rules: rules,
         locks: locks,
         positions: positions,
         values: values,
-    }
-}
-
-// Three positions of this rule book, the last with this value.
-fn plan_with_last(rules: u8, last: u8) -> Plan {
-    let values = make::five_values(0, 0, last, 0, 0);
-    Plan {
-        rules: rules,
-        locks: 3,
-        positions: 3,
-        values: values,
-    }
+    };
+    say_plan(b"4 start of rules ", plan, third);
+    say_start(State::start(plan));
 }
 
 fn out_of_range() {
-    line(b"rules 0", plan_with(0, 3, 3));
-    line(b"rules 3", plan_with(3, 3, 3));
-    line(b"rules 255", plan_with(255, 3, 3));
-    line(b"locks 0", plan_with(2, 0, 3));
-    line(b"locks 65", plan_with(2, 65, 3));
-    line(b"locks 255", plan_with(2, 255, 3));
-    line(b"no positions", plan_with(2, 3, 0));
-    line(b"17 positions", plan_with(2, 3, 17));
-    line(b"255 positions", plan_with(2, 3, 255));
-    line(b"value 5", plan_with_last(2, 5));
-    line(b"value 255", plan_with_last(2, 255));
-    line(b"a junction under ring rules", plan_with_last(1, 1));
+    line(0, 3, 3, 2, 1);
+    line(3, 3, 3, 2, 1);
+    line(255, 3, 3, 2, 1);
+    line(2, 0, 3, 2, 1);
+    line(2, 65, 3, 2, 1);
+    line(2, 255, 3, 2, 1);
+    line(2, 3, 0, 2, 1);
+    line(2, 3, 17, 2, 1);
+    line(2, 3, 255, 2, 1);
+    line(2, 3, 3, 2, 5);
+    line(2, 3, 3, 2, 255);
+    line(1, 3, 3, 0, 1);
 }
 
 fn in_range() {
-    line(b"multiring rules", plan_with(2, 3, 3));
-    line(b"locks 1", plan_with(2, 1, 3));
-    line(b"locks 64", plan_with(2, 64, 3));
-    line(b"1 position", plan_with(2, 3, 1));
-    line(b"16 positions", plan_with(2, 3, 16));
-    line(b"value 4", plan_with_last(2, 4));
-    line(b"ring rules", plan_with_last(1, 0));
+    line(2, 3, 3, 2, 1);
+    line(2, 1, 3, 2, 1);
+    line(2, 64, 3, 2, 1);
+    line(2, 3, 1, 2, 5);
+    line(2, 3, 16, 2, 1);
+    line(2, 3, 3, 2, 4);
+    line(1, 3, 3, 0, 0);
 }
 
 pub fn show() {

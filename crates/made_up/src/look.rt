@@ -1,4 +1,4 @@
-// Looking at a state and at what the model answers: one node, junction or queue place, and 01's numbers.
+// Looking at one place of a state or of a step's events, in use or not. A place that no state has rests.
 use cars::Car;
 use junction::Junction;
 use ring::State;
@@ -7,19 +7,7 @@ use usernode::Activity;
 use usernode::Event;
 use usernode::Node;
 
-// 01's number of a step.
-pub fn number_of(stepped: Stepped) -> u8 {
-    let answer = stepped.answer;
-    ring::step_number(answer)
-}
-
-// The state after a step, or as it was.
-pub fn state_of(stepped: Stepped) -> State {
-    let state = stepped.state;
-    state
-}
-
-// What the step did at a node.
+// What a step did at a node.
 pub fn event_of(stepped: Stepped, number: u8) -> Event {
     if 1 <= number {
         if number <= 64 {
@@ -31,14 +19,7 @@ pub fn event_of(stepped: Stepped, number: u8) -> Event {
     Event::Nothing
 }
 
-// 01's number of a take.
-pub fn take_number(state: State, node: u8, lock: u8) -> u8 {
-    let acted = state.take(node, lock);
-    let answer = acted.answer;
-    usernode::answer_number(answer)
-}
-
-// The node at the place of a number, in use or not.
+// The node at the place of a number.
 pub fn node_of(state: State, number: u8) -> Node {
     if 1 <= number {
         if number <= 64 {
@@ -54,7 +35,7 @@ pub fn node_of(state: State, number: u8) -> Node {
     }
 }
 
-// The junction at the place of a number, in use or not.
+// The junction at the place of a number; the first has number 1.
 pub fn junction_of(state: State, number: u8) -> Junction {
     if 1 <= number {
         if number <= 16 {
@@ -70,19 +51,7 @@ pub fn junction_of(state: State, number: u8) -> Junction {
     }
 }
 
-// The car that the zero node sends.
-pub fn zeroth_car(state: State) -> Car {
-    let zeroth = state.zeroth;
-    let car = zeroth.car;
-    car
-}
-
-pub fn count_of(state: State) -> u8 {
-    let zeroth = state.zeroth;
-    zeroth.count
-}
-
-// The car at a place of the queue, in use or not.
+// The car at a place of the queue; the head is at place 0.
 pub fn queue_car(state: State, place: u8) -> Car {
     let zeroth = state.zeroth;
     if place < 65 {

@@ -1,5 +1,6 @@
-// Made-up states of the lock ring and how the model answers them, a line each: the numbers 4 and 7 to 15, their order, and
-// 01's "Readings that look right". The output was held against 01 by hand, so a change of code and definition together shows.
+// Made-up states of the lock ring and how the model answers them, a line each: the numbers 4 and 7 to 15, their order, 01's
+// "Readings that look right", and the rules one by one. The output was held against 01 by hand, so a change of code and definition
+// together shows.
 mod acting;
 mod astray;
 mod four;
@@ -9,12 +10,12 @@ mod missing;
 mod order;
 mod queue;
 mod readings;
+mod report;
 mod rules;
 mod say;
 mod thirteen;
 mod tours;
 mod unused;
-mod zero_node;
 
 fn main() {
     four::show();
@@ -28,5 +29,4 @@ fn main() {
     readings::show();
     rules::show();
     tours::show();
-    zero_node::show();
 }

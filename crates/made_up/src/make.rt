@@ -1,5 +1,5 @@
-// Making states up: plans, cars, nodes and junctions at rest, and a state with one place changed. Every function answers every
-// input: a place that no state has changes nothing.
+// Making states up: cars, nodes, states at rest, and a state with one place changed. Every function answers every input: a place
+// that no state has changes nothing.
 use cars::Car;
 use cars::Notice;
 use cars::Tag;
@@ -13,13 +13,24 @@ use zeronode::ZeroNode;
 
 // The values of the first five positions; the others are 0.
 pub fn five_values(first: u8, second: u8, third: u8, fourth: u8, fifth: u8) -> [u8; 16] {
-    let mut values = [0u8; 16];
-    values[0] = first;
-    values[1] = second;
-    values[2] = third;
-    values[3] = fourth;
-    values[4] = fifth;
-    values
+    [
+        first,
+        second,
+        third,
+        fourth,
+        fifth,
+        0,
+        0,
+        0,
+        0,
+        0,
+        0,
+        0,
+        0,
+        0,
+        0,
+        0,
+    ]
 }
 
 pub fn reqp(lock: u8, source: u8) -> Car {
@@ -68,23 +79,12 @@ pub fn sender(car: Car) -> Node {
     }
 }
 
-// A node that sends idle and has no words.
-pub fn node_with(flag: bool, activity: Activity) -> Node {
+// A node that sends null.
+pub fn node_with(flag: bool, activity: Activity, held: u64, letting: u64) -> Node {
     Node {
-        car: Car::Idle,
+        car: Car::Null,
         flag: flag,
         activity: activity,
-        held: 0,
-        letting: 0,
-    }
-}
-
-// A node that sends idle and whose activity is idle.
-pub fn node_with_words(flag: bool, held: u64, letting: u64) -> Node {
-    Node {
-        car: Car::Idle,
-        flag: flag,
-        activity: Activity::Idle,
         held: held,
         letting: letting,
     }
@@ -97,11 +97,11 @@ pub fn resting(plan: Plan) -> State {
     with_car(state, Car::Idle)
 }
 
-// Two nodes on the main ring, four locks; all rests.
-pub fn plain(rules: u8) -> State {
+// Two nodes on the main ring; all rests.
+pub fn plain(rules: u8, locks: u8) -> State {
     resting(Plan {
         rules: rules,
-        locks: 4,
+        locks: locks,
         positions: 2,
         values: [0u8; 16],
     })
@@ -118,43 +118,32 @@ pub fn mixed() -> State {
     })
 }
 
-pub fn with_plan(state: State, plan: Plan) -> State {
-    let mut next = state;
-    next.plan = plan;
-    next
-}
-
-fn with_zeroth(state: State, zeroth: ZeroNode) -> State {
+// Another car for the zero node.
+pub fn with_car(state: State, car: Car) -> State {
+    let old = state.zeroth;
+    let queue = old.queue;
+    let zeroth = ZeroNode {
+        car: car,
+        queue: queue,
+        count: old.count,
+    };
     let mut next = state;
     next.zeroth = zeroth;
     next
 }
 
-// Another car for the zero node.
-pub fn with_car(state: State, car: Car) -> State {
-    let old = state.zeroth;
-    let queue = old.queue;
-    with_zeroth(
-        state,
-        ZeroNode {
-            car: car,
-            queue: queue,
-            count: old.count,
-        },
-    )
-}
-
+// Another queue for the zero node.
 pub fn with_queue(state: State, queue: [Slot; 65], count: u8) -> State {
     let old = state.zeroth;
     let car = old.car;
-    with_zeroth(
-        state,
-        ZeroNode {
-            car: car,
-            queue: queue,
-            count: count,
-        },
-    )
+    let zeroth = ZeroNode {
+        car: car,
+        queue: queue,
+        count: count,
+    };
+    let mut next = state;
+    next.zeroth = zeroth;
+    next
 }
 
 // Another car at a place of the queue, in use or not; the head is at place 0.

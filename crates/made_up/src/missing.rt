@@ -1,8 +1,8 @@
-// Number 13, for a step and for an action: cars and activities that name a missing node or lock, each kind in each place. The
-// plan has six nodes and three locks, so source 6 and lock 2 are the last that are there.
+// Number 13, for a step and for an action: cars and activities that name a missing node or lock, each kind in each place, and gotp
+// and didv under ring rules. The take is one that a sound state accepts.
 use crate::make;
+use crate::report;
 use crate::say;
-use crate::thirteen;
 use cars::Car;
 use junction::Junction;
 use plan::Plan;
@@ -18,124 +18,119 @@ enum Place {
     OnSubring,
 }
 
-enum Kind {
-    Reqp,
-    Failp,
-    Dov,
-    Gotp,
-    Didv,
-}
-
-fn car_of(kind: Kind, lock: u8, source: u8) -> Car {
-    match kind {
-        Kind::Reqp => make::reqp(lock, source),
-        Kind::Failp => make::failp(lock, source),
-        Kind::Dov => make::dov(lock, source),
-        Kind::Gotp => make::gotp(lock, source),
-        Kind::Didv => make::didv(lock, source),
-    }
-}
-
-fn junction_with(main: Car, subring: Car) -> Junction {
-    Junction {
-        main: main,
-        subring: subring,
-        train: false,
-        tour: false,
-        word: 0,
-    }
-}
-
-fn state_with(place: Place, car: Car) -> State {
-    match place {
-        Place::OfZeroNode => make::with_car(make::mixed(), car),
-        Place::InQueue => make::with_count(make::with_queue_car(make::mixed(), 1, car), 2),
-        Place::OfNode => make::with_node(make::mixed(), 6, make::sender(car)),
-        Place::OnMain => make::with_junction(make::mixed(), 2, junction_with(car, Car::Idle)),
-        Place::OnSubring => make::with_junction(make::mixed(), 2, junction_with(Car::Idle, car)),
-    }
-}
-
 fn say_place(place: Place) {
     match place {
-        Place::OfZeroNode => say::text(b"13 zero node's car "),
-        Place::InQueue => say::text(b"13 queue place "),
-        Place::OfNode => say::text(b"13 node's car "),
-        Place::OnMain => say::text(b"13 junction's main car "),
-        Place::OnSubring => say::text(b"13 junction's subring car "),
+        Place::OfZeroNode => say::text(b", zero node's car "),
+        Place::InQueue => say::text(b", queue place "),
+        Place::OfNode => say::text(b", node's car "),
+        Place::OnMain => say::text(b", junction's main car "),
+        Place::OnSubring => say::text(b", junction's subring car "),
     }
 }
 
-fn line(place: Place, car: Car) {
+fn joined(state: State, main: Car, subring: Car) -> State {
+    let last = state.plan.junctions();
+    make::with_junction(
+        state,
+        last,
+        Junction {
+            main: main,
+            subring: subring,
+            train: false,
+            tour: false,
+            word: 0,
+        },
+    )
+}
+
+fn with_car_at(state: State, place: Place, car: Car) -> State {
+    match place {
+        Place::OfZeroNode => make::with_car(state, car),
+        Place::InQueue => make::with_count(make::with_queue_car(state, 1, car), 2),
+        Place::OfNode => make::with_node(state, state.plan.nodes(), make::sender(car)),
+        Place::OnMain => joined(state, car, Car::Idle),
+        Place::OnSubring => joined(state, Car::Idle, car),
+    }
+}
+
+fn line(state: State, place: Place, car: Car) {
+    say::number(b"13 rules ", state.plan.rules);
     say_place(place);
-    say::the_car(car);
-    thirteen::answers(state_with(place, car));
+    say::plain_car(car);
+    report::step_and_take(with_car_at(state, place, car));
 }
 
-// Source 0, a source too many, a lock too many, and the last of both.
-fn at_edges(place: Place, kind: Kind) {
-    line(place, car_of(kind, 0, 0));
-    line(place, car_of(kind, 0, 7));
-    line(place, car_of(kind, 3, 1));
-    line(place, car_of(kind, 2, 6));
+// Each kind of car with this lock and source.
+fn each_kind(place: Place, lock: u8, source: u8) {
+    let state = make::mixed();
+    line(state, place, make::reqp(lock, source));
+    line(state, place, make::failp(lock, source));
+    line(state, place, make::dov(lock, source));
+    line(state, place, make::gotp(lock, source));
+    line(state, place, make::didv(lock, source));
 }
 
-fn each_kind(place: Place) {
-    at_edges(place, Kind::Reqp);
-    at_edges(place, Kind::Failp);
-    at_edges(place, Kind::Dov);
-    at_edges(place, Kind::Gotp);
-    at_edges(place, Kind::Didv);
+// Six nodes and three locks: source 0, a source too many, a lock too many, and the last of both.
+fn at_edges(place: Place) {
+    each_kind(place, 0, 0);
+    each_kind(place, 0, 7);
+    each_kind(place, 3, 1);
+    each_kind(place, 2, 6);
 }
 
-// The last node with this activity.
+// The kinds that only multiring rules have.
+fn notices(rules: u8, place: Place) {
+    let state = make::plain(rules, 3);
+    line(state, place, make::gotp(0, 1));
+    line(state, place, make::didv(0, 1));
+}
+
+// The last node, with this activity, in a plan of three locks.
 fn doing(activity: Activity) {
-    say::text(b"13 activity ");
+    say::text(b"13");
     say::the_activity(activity);
-    thirteen::answers(make::with_node(make::mixed(), 6, make::node_with(false, activity)));
+    report::step_and_take(make::with_node(
+        make::mixed(),
+        6,
+        make::node_with(false, activity, 0, 0),
+    ));
 }
 
-fn activities() {
-    doing(Activity::ToSendReqp(3));
-    doing(Activity::ToSendReqp(2));
-    doing(Activity::WaitingReqp(3));
-    doing(Activity::WaitingReqp(2));
-    doing(Activity::ToSendDov(3));
-    doing(Activity::ToSendDov(2));
-    doing(Activity::WaitingDov(3));
-    doing(Activity::WaitingDov(2));
+fn each_activity(lock: u8) {
+    doing(Activity::ToSendReqp(lock));
+    doing(Activity::WaitingReqp(lock));
+    doing(Activity::ToSendDov(lock));
+    doing(Activity::WaitingDov(lock));
 }
 
-// The largest plan, 64 nodes and 64 locks: its last node sends this car and has every lock in its words.
-fn largest(car: Car) {
+// The largest plan, 64 nodes and 64 locks: its last node sends this reqp.
+fn largest(lock: u8, source: u8) {
     let plan = Plan {
         rules: 2,
         locks: 64,
         positions: 16,
         values: [4u8; 16],
     };
-    let all = 18446744073709551615;
-    let sender = usernode::Node {
-        car: car,
-        flag: false,
-        activity: Activity::WaitingDov(63),
-        held: all,
-        letting: all,
-    };
-    say::text(b"13 node 64 of 64 sends ");
-    say::the_car(car);
-    thirteen::answers(make::with_node(make::resting(plan), 64, sender));
+    line(make::resting(plan), Place::OfNode, make::reqp(lock, source));
+}
+
+fn places() {
+    at_edges(Place::OfZeroNode);
+    at_edges(Place::InQueue);
+    at_edges(Place::OfNode);
+    at_edges(Place::OnMain);
+    at_edges(Place::OnSubring);
+    notices(1, Place::OfZeroNode);
+    notices(1, Place::InQueue);
+    notices(1, Place::OfNode);
 }
 
 pub fn show() {
-    each_kind(Place::OfZeroNode);
-    each_kind(Place::InQueue);
-    each_kind(Place::OfNode);
-    each_kind(Place::OnMain);
-    each_kind(Place::OnSubring);
-    activities();
-    largest(make::reqp(63, 64));
-    largest(make::reqp(64, 64));
-    largest(make::reqp(63, 65));
-    largest(make::reqp(255, 255));
+    places();
+    each_activity(3);
+    each_activity(2);
+    largest(63, 64);
+    largest(64, 64);
+    largest(63, 65);
+    largest(255, 255);
 }

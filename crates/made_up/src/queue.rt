@@ -1,12 +1,13 @@
-// Number 14: a queue of 64 or 65 cars, with the token or another car at its head, and each kind of arrival.
+// The zero node: (a), (b) and (c), which arrivals it appends, and number 14.
 use crate::look;
 use crate::make;
+use crate::report;
 use crate::say;
 use cars::Car;
 use ring::State;
 use zeronode::Slot;
 
-// A plain ring whose zero node sends null and has this many cars in its queue: the head, a dov, and reqps behind it.
+// The zero node sends null. Its queue has the head, a dov behind it and reqps in all other places, in use or not.
 fn state_with(head: Car, count: u8, arrival: Car) -> State {
     let mut queue = [Slot {
         car: make::reqp(0, 1),
@@ -15,45 +16,52 @@ fn state_with(head: Car, count: u8, arrival: Car) -> State {
     queue[1] = Slot {
         car: make::dov(1, 2),
     };
-    let state = make::with_queue(make::plain(2), queue, count);
+    let state = make::with_queue(make::plain(2, 4), queue, count);
     make::with_node(make::with_car(state, Car::Null), 2, make::sender(arrival))
+}
+
+// The queue's first three places and the last.
+fn say_places(state: State) {
+    say::the_car(b", places 0: ", look::queue_car(state, 0));
+    say::the_car(b", 1: ", look::queue_car(state, 1));
+    say::the_car(b", 2: ", look::queue_car(state, 2));
+    say::the_car(b", 64: ", look::queue_car(state, 64));
+    say::line_end();
 }
 
 // What the step answers, and the zero node afterwards.
 fn line(head: Car, count: u8, arrival: Car) {
     let stepped = state_with(head, count, arrival).step();
-    let next = look::state_of(stepped);
-    say::text(b"14 queue of ");
-    say::number(count);
-    say::text(b", head ");
-    say::the_car(head);
-    say::text(b", arrives ");
-    say::the_car(arrival);
-    say::text(b": step ");
-    say::number(look::number_of(stepped));
-    say::text(b", zero node sends ");
-    say::the_car(look::zeroth_car(next));
-    say::text(b", count ");
-    say::number(look::count_of(next));
-    say::text(b", head ");
-    say::the_car(look::queue_car(next, 0));
-    say::text(b", place 64 ");
-    say::the_car(look::queue_car(next, 64));
-    say::line_end();
+    let next = stepped.state;
+    say::number(b"14 queue of ", count);
+    say::the_car(b", head ", head);
+    say::the_car(b", arrives ", arrival);
+    report::step_answer(stepped);
+    report::zeroth_after(stepped);
+    say_places(next);
+}
+
+// Each kind of arrival.
+fn arrivals(head: Car, count: u8) {
+    line(head, count, Car::Idle);
+    line(head, count, Car::Token);
+    line(head, count, Car::Null);
+    line(head, count, make::reqp(3, 1));
+    line(head, count, make::failp(3, 1));
+    line(head, count, make::dov(3, 1));
+    line(head, count, make::gotp(3, 1));
+    line(head, count, make::didv(3, 1));
 }
 
 pub fn show() {
     let other = make::failp(2, 2);
-    line(Car::Token, 65, make::reqp(3, 1));
-    line(Car::Token, 65, make::failp(3, 1));
-    line(Car::Token, 65, make::dov(3, 1));
-    line(Car::Token, 65, Car::Token);
-    line(Car::Token, 65, Car::Idle);
-    line(Car::Token, 65, Car::Null);
-    line(Car::Token, 65, make::gotp(3, 1));
-    line(Car::Token, 65, make::didv(3, 1));
-    line(Car::Token, 64, make::reqp(3, 1));
-    line(other, 65, make::reqp(3, 1));
-    line(other, 65, Car::Token);
-    line(other, 65, Car::Idle);
+    arrivals(Car::Token, 65);
+    arrivals(Car::Token, 64);
+    arrivals(other, 65);
+    arrivals(other, 2);
+    line(Car::Token, 1, Car::Idle);
+    line(Car::Token, 2, Car::Null);
+    line(Car::Idle, 2, Car::Null);
+    line(Car::Token, 0, Car::Token);
+    line(Car::Token, 0, Car::Idle);
 }

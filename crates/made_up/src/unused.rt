@@ -2,25 +2,13 @@
 // tested, and comes back as it was.
 use crate::look;
 use crate::make;
+use crate::report;
 use crate::say;
 use cars::Car;
 use junction::Junction;
 use plan::Plan;
 use ring::State;
 use usernode::Activity;
-use usernode::Node;
-
-// A node that would be refused in any plan of fewer than 64 locks.
-fn bad_node() -> Node {
-    let car = make::gotp(200, 0);
-    Node {
-        car: car,
-        flag: true,
-        activity: Activity::WaitingDov(201),
-        held: 18446744073709551615,
-        letting: 18446744073709551614,
-    }
-}
 
 fn bad_junction() -> Junction {
     let main = make::didv(202, 250);
@@ -34,117 +22,108 @@ fn bad_junction() -> Junction {
     }
 }
 
-// Garbage in the first and the last place that this state does not use.
-fn littered(state: State, node: u8, junction: u8, place: u8) -> State {
-    let first = make::with_node(make::with_node(state, node, bad_node()), 64, bad_node());
-    let second = make::with_junction(
-        make::with_junction(first, junction, bad_junction()),
-        16,
-        bad_junction(),
+// Garbage in the places of a node, a junction and a car of the queue.
+fn with_litter(state: State, node: u8, junction: u8, place: u8) -> State {
+    let bad = make::node_with(
+        true,
+        Activity::WaitingDov(201),
+        18446744073709551615,
+        18446744073709551614,
     );
-    make::with_queue_car(
-        make::with_queue_car(second, place, make::dov(204, 252)),
+    let first = make::with_junction(make::with_node(state, node, bad), junction, bad_junction());
+    make::with_queue_car(first, place, make::dov(204, 252))
+}
+
+// Five positions, the sixth and the last value out of range; garbage in the last node, junction and queue place.
+fn littered(rules: u8, second: u8, third: u8) -> State {
+    let mut values = make::five_values(0, second, third, 0, 0);
+    values[5] = 9;
+    values[15] = 255;
+    with_litter(
+        make::resting(Plan {
+            rules: rules,
+            locks: 3,
+            positions: 5,
+            values: values,
+        }),
         64,
-        make::failp(205, 253),
+        16,
+        64,
     )
 }
 
 fn say_node(state: State, number: u8) {
-    say::text(b"unused node place ");
-    say::number(number);
-    say::text(b": ");
-    say::the_node(look::node_of(state, number));
+    say::number(b"unused node place ", number);
+    say::the_node(b": sends ", look::node_of(state, number));
     say::line_end();
 }
 
 fn say_junction(state: State, number: u8) {
-    say::text(b"unused junction place ");
-    say::number(number);
-    say::text(b": ");
+    say::number(b"unused junction place ", number);
     say::the_junction(look::junction_of(state, number));
     say::line_end();
 }
 
 fn say_queue(state: State, place: u8) {
-    say::text(b"unused queue place ");
-    say::number(place);
-    say::text(b": ");
-    say::the_car(look::queue_car(state, place));
+    say::number(b"unused queue place ", place);
+    say::the_car(b": ", look::queue_car(state, place));
     say::line_end();
 }
 
-fn say_value(state: State, place: u8) {
-    let plan = state.plan;
-    say::text(b"unused value place ");
-    say::number(place);
-    say::text(b": ");
-    if place < 16 {
-        say::number(plan.values[place as usize]);
-    }
+fn say_values(plan: Plan) {
+    say::number(b"unused sixth value ", plan.values[5]);
+    say::number(b", last value ", plan.values[15]);
     say::line_end();
 }
 
 // All garbage of a state.
 fn say_litter(state: State, node: u8, junction: u8, place: u8) {
+    let plan = state.plan;
     say_node(state, node);
     say_node(state, 64);
     say_junction(state, junction);
     say_junction(state, 16);
     say_queue(state, place);
     say_queue(state, 64);
-    say_value(state, 5);
-    say_value(state, 15);
+    say_values(plan);
 }
 
-// A plan of five positions, with values beyond them that no plan allows.
-fn plan_with_litter(rules: u8, second: u8, third: u8) -> Plan {
-    let mut values = make::five_values(0, second, third, 0, 0);
-    values[5] = 9;
-    values[15] = 255;
-    Plan {
-        rules: rules,
-        locks: 3,
-        positions: 5,
-        values: values,
-    }
+// A queue of a reqp and a null.
+fn queued(state: State) -> State {
+    make::with_count(
+        make::with_queue_car(
+            make::with_queue_car(state, 0, make::reqp(0, 1)),
+            1,
+            Car::Null,
+        ),
+        2,
+    )
 }
 
-// A queue of two whose head is sent: the place that it gives up becomes idle, those behind it stay.
-fn after_step(label: &[u8], state: State, node: u8, junction: u8) {
-    let queued = make::with_queue_car(
-        make::with_queue_car(state, 0, make::reqp(0, 1)),
-        1,
-        Car::Null,
-    );
-    let made = littered(make::with_count(queued, 2), node, junction, 2);
-    let stepped = made.step();
-    let next = look::state_of(stepped);
-    say::text(label);
-    say::text(b": step ");
-    say::number(look::number_of(stepped));
-    say::text(b", count ");
-    say::number(look::count_of(next));
-    say::text(b", place given up ");
-    say::the_car(look::queue_car(next, 1));
+// The queue's head is sent: the place that it gives up becomes idle, the garbage behind it stays.
+fn after_step(state: State, node: u8, junction: u8) {
+    let stepped = with_litter(queued(state), node, junction, 2).step();
+    let next = stepped.state;
+    say::text(b"unused");
+    report::step_answer(stepped);
+    report::zeroth_after(stepped);
+    say::the_car(b", place given up ", look::queue_car(next, 1));
     say::line_end();
     say_litter(next, node, junction, 2);
 }
 
 fn after_take(state: State, node: u8, junction: u8) {
-    let made = littered(state, node, junction, 0);
-    let acted = made.take(1, 0);
+    let acted = with_litter(state, node, junction, 0).take(1, 0);
     let answer = acted.answer;
     let next = acted.state;
-    say::text(b"unused, multiring: take ");
-    say::number(usernode::answer_number(answer));
+    say::number(b"unused: take ", usernode::answer_number(answer));
     say::line_end();
     say_litter(next, node, junction, 0);
 }
 
+// Six nodes and two junctions under multiring rules, five nodes and no junction under ring rules.
 pub fn show() {
-    let multiring = make::resting(plan_with_litter(2, 2, 1));
-    let ring = make::resting(plan_with_litter(1, 0, 0));
-    after_step(b"unused, multiring", multiring, 7, 3);
-    after_step(b"unused, ring", ring, 6, 1);
-    after_take(multiring, 7, 3);
+    after_step(littered(2, 2, 1), 7, 3);
+    after_step(littered(1, 0, 0), 6, 1);
+    after_take(littered(2, 2, 1), 7, 3);
 }
