@@ -5,12 +5,11 @@ use plan::Plan;
 use ring::Started;
 use ring::State;
 
-// A plan, with one of its values.
-pub fn say_plan(lead: &[u8], plan: Plan, value: u8) {
+// A plan but for its values.
+pub fn say_plan(lead: &[u8], plan: Plan) {
     say::number(lead, plan.rules);
     say::number(b", locks ", plan.locks);
     say::number(b", positions ", plan.positions);
-    say::number(b", value ", value);
 }
 
 // The number, and of the state beside it the plan with its first value, and the zero node's car.
@@ -21,7 +20,8 @@ fn say_start(started: Started) {
     let zeroth = state.zeroth;
     let car = zeroth.car;
     say::number(b": ", ring::plan_number(answer));
-    say_plan(b", beside it rules ", plan, plan.values[0]);
+    say_plan(b", beside it rules ", plan);
+    say::number(b", first value ", plan.values[0]);
     say::the_car(b", zero node sends ", car);
     say::line_end();
 }
@@ -35,7 +35,8 @@ fn line(rules: u8, locks: u8, positions: u8, first: u8, third: u8) {
         positions: positions,
         values: values,
     };
-    say_plan(b"4 start of rules ", plan, third);
+    say_plan(b"4 start of rules ", plan);
+    say::number(b", third value ", third);
     say_start(State::start(plan));
 }
 

@@ -11,6 +11,7 @@ mod order;
 mod queue;
 mod readings;
 mod report;
+mod routes;
 mod rules;
 mod say;
 mod thirteen;
@@ -29,4 +30,5 @@ fn main() {
     readings::show();
     rules::show();
     tours::show();
+    routes::show();
 }

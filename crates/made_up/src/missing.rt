@@ -54,7 +54,10 @@ fn with_car_at(state: State, place: Place, car: Car) -> State {
 }
 
 fn line(state: State, place: Place, car: Car) {
-    say::number(b"13 rules ", state.plan.rules);
+    let plan = state.plan;
+    say::number(b"13 rules ", plan.rules);
+    say::number(b", locks ", plan.locks);
+    say::number(b", nodes ", plan.nodes());
     say_place(place);
     say::plain_car(car);
     report::step_and_take(with_car_at(state, place, car));
@@ -87,7 +90,7 @@ fn notices(rules: u8, place: Place) {
 
 // The last node, with this activity, in a plan of three locks.
 fn doing(activity: Activity) {
-    say::text(b"13");
+    say::text(b"13 locks 3");
     say::the_activity(activity);
     report::step_and_take(make::with_node(
         make::mixed(),

@@ -27,13 +27,17 @@ fn waiting(state: State, lock: u8, held: u64) -> State {
     make::with_node(make::with_car(state, make::reqp(lock, 1)), 1, node)
 }
 
+// What the step answers, and a take by node 2, which 14 and 15 do not touch; the zero node and node 1 after the step.
 fn line(lock: u8, head: Car, held: u64) {
-    let stepped = waiting(full_queue(head), lock, held).step();
+    let state = waiting(full_queue(head), lock, held);
+    let stepped = state.step();
     say::number(b"order, own reqp for lock ", lock);
     say::the_car(b", head ", head);
     say::word(b", held word ", held);
     report::step_answer(stepped);
+    report::take_answer(state, 2, 0);
     report::zeroth_after(stepped);
+    say::text(b", node 1");
     report::node_after(stepped, 1);
 }
 

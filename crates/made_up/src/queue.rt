@@ -33,7 +33,7 @@ fn say_places(state: State) {
 fn line(head: Car, count: u8, arrival: Car) {
     let stepped = state_with(head, count, arrival).step();
     let next = stepped.state;
-    say::number(b"14 queue of ", count);
+    say::number(b"queue of ", count);
     say::the_car(b", head ", head);
     say::the_car(b", arrives ", arrival);
     report::step_answer(stepped);

@@ -27,7 +27,7 @@ fn released(acted: Acted) {
     let state = acted.state;
     let stepped = state.step();
     say::number(
-        b"(a) released, didv not sent, another's reqp arrives: release ",
+        b"(a) released, didv not sent, another's reqp arrives, release ",
         usernode::answer_number(answer),
     );
     report::step_answer(stepped);

@@ -11,7 +11,7 @@ pub fn step_answer(stepped: Stepped) {
 }
 
 // 01's number of a take; 0: accepted.
-fn take_answer(state: State, node: u8, lock: u8) {
+pub fn take_answer(state: State, node: u8, lock: u8) {
     let acted = state.take(node, lock);
     let answer = acted.answer;
     say::number(b", take ", usernode::answer_number(answer));

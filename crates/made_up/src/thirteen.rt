@@ -20,7 +20,8 @@ fn planned(rules: u8, locks: u8, positions: u8, fifth: u8) {
     };
     let mut state = make::mixed();
     state.plan = plan;
-    four::say_plan(b"13 plan of rules ", plan, fifth);
+    four::say_plan(b"13 plan of rules ", plan);
+    say::number(b", fifth value ", fifth);
     report::step_and_take(state);
 }
 
@@ -46,7 +47,7 @@ fn queue_count(count: u8) {
 // The last node's words, of three locks.
 fn node_words(rules: u8, held: u64, letting: u64) {
     let state = make::plain(rules, 3);
-    say::number(b"13 rules ", rules);
+    say::number(b"13 locks 3, rules ", rules);
     say::word(b", held word ", held);
     say::word(b", letting-go word ", letting);
     report::step_and_take(make::with_node(
@@ -65,7 +66,7 @@ fn junction_word(word: u64) {
         tour: false,
         word: word,
     };
-    say::word(b"13 junction's word ", word);
+    say::word(b"13 locks 3, junction's word ", word);
     report::step_and_take(make::with_junction(make::mixed(), 2, junction));
 }
 

@@ -81,6 +81,14 @@ fn wanting(subring: Car, number: u8, flag: bool, activity: Activity, held: u64, 
     ).step());
 }
 
+// The train flag is set before the tour begins, which only a made-up state has.
+fn train_before_tour() {
+    let state = state_with(Car::Idle, true, false, Car::Token);
+    let node = make::node_with(false, Activity::ToSendReqp(0), 0, 0);
+    say::text(b"junction, token arrives, node 2 to send, train flag set");
+    report::junction_after(make::with_node(state, 2, node).step());
+}
+
 // Some node wants a train or none does; it is asked before the step, in which the last two of node 2 stop or begin to want one.
 fn beginnings() {
     wanting(Car::Idle, 2, false, Activity::ToSendReqp(0), 0, 0);
@@ -111,6 +119,7 @@ fn each_out(train: bool, arrival: Car) {
 pub fn show() {
     all_outside();
     beginnings();
+    train_before_tour();
     each_out(true, make::reqp(1, 4));
     each_out(false, make::dov(1, 4));
     shown(true, true, Car::Token, Car::Null);

@@ -9,7 +9,21 @@ use junction::Junction;
 use plan::Plan;
 use ring::State;
 use usernode::Activity;
+use usernode::Node;
 
+// A node that no plan allows.
+fn bad_node() -> Node {
+    let car = make::gotp(200, 0);
+    Node {
+        car: car,
+        flag: true,
+        activity: Activity::WaitingDov(201),
+        held: 18446744073709551615,
+        letting: 18446744073709551614,
+    }
+}
+
+// A junction that no plan allows.
 fn bad_junction() -> Junction {
     let main = make::didv(202, 250);
     let subring = make::reqp(203, 251);
@@ -24,13 +38,11 @@ fn bad_junction() -> Junction {
 
 // Garbage in the places of a node, a junction and a car of the queue.
 fn with_litter(state: State, node: u8, junction: u8, place: u8) -> State {
-    let bad = make::node_with(
-        true,
-        Activity::WaitingDov(201),
-        18446744073709551615,
-        18446744073709551614,
+    let first = make::with_junction(
+        make::with_node(state, node, bad_node()),
+        junction,
+        bad_junction(),
     );
-    let first = make::with_junction(make::with_node(state, node, bad), junction, bad_junction());
     make::with_queue_car(first, place, make::dov(204, 252))
 }
 

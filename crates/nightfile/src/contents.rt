@@ -14,7 +14,7 @@ pub fn byte_at(bytes: &[u8], at: usize) -> u8
 }
 
 // The number of two bytes, low byte first.
-pub fn two_at(bytes: &[u8], at: usize) -> u16
+pub(crate) fn two_at(bytes: &[u8], at: usize) -> u16
     requires { ⌜ at + 1 < 2 ^ 64 ⌝ }
     ensures { λ r. ⌜ r ≡ twoAt (now (bytes .entry)) at ⌝ }
 {
