@@ -1,0 +1,7 @@
+pub mod Found
+pub mod Moves
+pub mod Ready
+pub mod Told
+pub mod Way
+pub mod Behind
+pub mod Fills

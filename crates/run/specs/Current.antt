@@ -1,0 +1,72 @@
+-- What a run says where it stands, without a step or an item more, and how it stands afterwards.
+use Prim.Native.Nat.{ℕ}
+use mathlib.Core.Bool.{Bool, cond, true, false, _&&_, _||_}
+use mathlib.Core.List.{List}
+use lib.Dec.{eqb, ltb}
+use Rattle.nightfile.specs.declared.Item.{Item}
+use Rattle.nightfile.specs.declared.Item.the-variants.{Steps, Act}
+use Rattle.nightfile.specs.declared.ItemAnswer.{ItemAnswer}
+use Rattle.nightfile.specs.declared.ItemAnswer.the-variants.{NoMore, Found, LeftOver, Bad}
+use Rattle.nightfile.specs.Items.{readAt}
+use Rattle.run.specs.declared.Line.{Line}
+use Rattle.run.specs.declared.Run.{Run}
+use Rattle.run.specs.declared.Saying.{Saying}
+use Rattle.run.specs.declared.Phase.{Phase}
+use Rattle.run.specs.declared.Phase.the-variants.{Items, Ended, Cut, Refused}
+use Rattle.run.specs.Standing.{nodesOf, locksOf, past, actionItem, allSaid}
+use Rattle.run.specs.Wording.{lineOf, eventHere, isEvent, eventLine, actionLine, lockLine, lastLine, refusalLine}
+
+-- a line and the run after it
+unfoldable pub saying : Line → Run → Saying
+saying line run = record { line = line; run = run }
+
+-- what is read at the run's place, and whether it is an action
+unfoldable pub answerHere : List ℕ → Run → ItemAnswer
+answerHere schedule run = readAt schedule (run .at) .answer
+
+unfoldable pub isAct : Item → Bool
+isAct (Steps n) = false
+isAct (Act action node lock) = true
+
+unfoldable pub isAction : ItemAnswer → Bool
+isAction NoMore = false
+isAction (Found item) = isAct item
+isAction LeftOver = false
+isAction Bad = false
+
+-- whether there is a line to say: at an event, at an action once the item before has no steps left, at the end always
+unfoldable pub readyIn : Phase → List ℕ → Run → Bool
+readyIn Items schedule run =
+    cond (ltb (run .next) (nodesOf run)) (isEvent (eventHere run)) (eqb (run .left) 0 && isAction (answerHere schedule run))
+readyIn Ended schedule run = true
+readyIn Cut schedule run = true
+readyIn (Refused number) schedule run = true
+
+unfoldable pub ready : List ℕ → Run → Bool
+ready schedule run = run .over || readyIn (run .phase) schedule run
+
+-- an item's line, if it is an action; else nothing
+unfoldable pub actSaying : Item → Run → Saying
+actSaying (Steps n) run = saying (lineOf run 0 0 0) run
+actSaying (Act action node lock) run = saying (actionLine action node lock run) (actionItem action node lock run)
+
+unfoldable pub answerSaying : ItemAnswer → Run → Saying
+answerSaying NoMore run = saying (lineOf run 0 0 0) run
+answerSaying (Found item) run = actSaying item run
+answerSaying LeftOver run = saying (lineOf run 0 0 0) run
+answerSaying Bad run = saying (lineOf run 0 0 0) run
+
+-- a lock's line, or the last one
+unfoldable pub endSaying : Run → Saying
+endSaying run = cond (ltb (run .next) (locksOf run)) (saying (lockLine run) (past run)) (saying (lastLine run) (allSaid run))
+
+-- the line of a run that is ready, by what it is at
+unfoldable pub sayingIn : Phase → List ℕ → Run → Saying
+sayingIn Items schedule run =
+    cond (ltb (run .next) (nodesOf run)) (saying (eventLine run) (past run)) (answerSaying (answerHere schedule run) run)
+sayingIn Ended schedule run = endSaying run
+sayingIn Cut schedule run = endSaying run
+sayingIn (Refused number) schedule run = saying (refusalLine number run) (allSaid run)
+
+unfoldable pub sayingNow : List ℕ → Run → Saying
+sayingNow schedule run = sayingIn (run .phase) schedule run

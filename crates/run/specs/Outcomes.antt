@@ -1,0 +1,61 @@
+-- 01, "The run and its lines": the result of a run, and the lines of a file.
+use Prim.Native.Nat.{ℕ, _+_}
+use mathlib.Core.Bool.{Bool, true, false}
+use mathlib.Core.List.{List, [], _∷_}
+use Rattle.nightfile.specs.declared.Item.{Item}
+use Rattle.nightfile.specs.declared.Item.the-variants.{Steps, Act}
+use Rattle.nightfile.specs.File.{schedulePart}
+use Rattle.tally.specs.Tally.{sumOf}
+use Rattle.run.specs.declared.Run.{Run}
+use Rattle.run.specs.declared.Phase.{Phase}
+use Rattle.run.specs.declared.Phase.the-variants.{Items, Ended, Cut, Refused}
+use Rattle.run.specs.declared.Outcome.{Outcome}
+use Rattle.run.specs.Standing.{locksOf, beginning}
+use Rattle.run.specs.Whole.{course, itemsFrom, Course}
+use Rattle.run.specs.Filling.{texts}
+
+-- the number that the file is refused with; 0: none
+unfoldable pub refusalOf : Phase → ℕ
+refusalOf Items = 0
+refusalOf Ended = 0
+refusalOf Cut = 0
+refusalOf (Refused number) = number
+
+-- "C where the schedule's sum is above the ceiling"
+unfoldable pub isCut : Phase → Bool
+isCut Items = false
+isCut Ended = false
+isCut Cut = true
+isCut (Refused number) = false
+
+-- the numbers of a run where it stands
+unfoldable pub outcomeOf : Run → Outcome
+outcomeOf run =
+    record {
+      refusal = refusalOf (run .phase);
+      cut = isCut (run .phase);
+      steps = run .reached .steps;
+      busy = run .reached .tally .busy;
+      grants = sumOf (run .reached .tally .grants) (locksOf run);
+      failed = sumOf (run .reached .tally .failed) (locksOf run);
+    }
+
+-- the course of a file under a ceiling
+unfoldable pub fileCourse : ℕ → List ℕ → Course
+fileCourse ceiling file = course ceiling (schedulePart file) (beginning file)
+
+-- what is answered, and what is written, of a file
+unfoldable pub fileOutcome : ℕ → List ℕ → Outcome
+fileOutcome ceiling file = outcomeOf (fileCourse ceiling file .end)
+
+unfoldable pub fileText : ℕ → List ℕ → List ℕ
+fileText ceiling file = texts (fileCourse ceiling file .lines)
+
+-- "the schedule's sum": the steps of all its items
+unfoldable pub stepsIn : List Item → ℕ
+stepsIn [] = 0
+stepsIn (Steps n ∷ rest) = n + stepsIn rest
+stepsIn (Act action node lock ∷ rest) = stepsIn rest
+
+unfoldable pub scheduleSum : List ℕ → ℕ
+scheduleSum schedule = stepsIn (itemsFrom schedule 0)
