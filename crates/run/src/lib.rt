@@ -1,9 +1,13 @@
 // A run of a night file: where it stands, by value; what it says next; a buffer filled with its lines; its result.
+ghost use mathlib.Core.Path.{_≡_};
+ghost use Rattle.run.specs.Standing.{beginning};
+ghost use Rattle.run.specs.Outcomes.{fileOutcome};
 use plan::NODES;
 use ring::Happening;
 use ring::State;
 use tally::LOCKS;
 use tally::Tally;
+use usernode::Event;
 
 mod beginning;
 mod current;
@@ -67,4 +71,42 @@ pub struct Outcome {
     pub busy: [u64; LOCKS],
     pub grants: u64,
     pub failed: u64,
+}
+
+// The run of a file, accepted or refused, before its first line.
+pub fn begin(file: &[u8]) -> Run
+    ensures { λ r. ⌜ r ≡ beginning (now (file .entry)) ⌝ }
+{
+    let number = nightfile::file_number(nightfile::test_file(file));
+    let plan = nightfile::read_plan(nightfile::plan_part(file));
+    let started = State::start(plan);
+    let state = started.state;
+    let tally = tally::empty_tally();
+    let events = [Happening {
+        event: Event::Nothing,
+    }; NODES];
+    let phase = beginning::first_phase(number);
+    Run {
+        reached: Reached {
+            state: state,
+            tally: tally,
+            steps: 0,
+        },
+        at: 0,
+        left: 0,
+        events: events,
+        next: 0,
+        phase: phase,
+        over: false,
+    }
+}
+
+// Runs a file, accepted or refused, to its end under a ceiling of steps.
+pub fn run_file(file: &[u8], ceiling: u64) -> Outcome
+    ensures { λ r. ⌜ r ≡ fileOutcome ceiling (now (file .entry)) ⌝ }
+{
+    let schedule = nightfile::schedule_part(file);
+    let run = begin(file);
+    let end = run.finish(schedule, ceiling);
+    end.numbers()
 }

@@ -1,7 +1,7 @@
 // The result of a run: a file run to its end under a ceiling.
 ghost use mathlib.Core.Path.{_≡_};
 ghost use Rattle.run.specs.Whole.{course};
-ghost use Rattle.run.specs.Outcomes.{refusalOf, isCut, outcomeOf, fileOutcome};
+ghost use Rattle.run.specs.Outcomes.{refusalOf, isCut, outcomeOf};
 use crate::Outcome;
 use crate::Phase;
 use crate::Run;
@@ -32,7 +32,7 @@ fn is_cut(phase: Phase) -> bool
 
 impl Run {
     // The run when all is said.
-    fn finish(self, schedule: &[u8], ceiling: u64) -> Run
+    pub(crate) fn finish(self, schedule: &[u8], ceiling: u64) -> Run
         ensures { λ r. ⌜ r ≡ course ceiling (now (schedule .entry)) self .end ⌝ }
     {
         let mut run = self.onward(schedule, ceiling);
@@ -47,7 +47,7 @@ impl Run {
     }
 
     // The numbers of a run where it stands.
-    fn numbers(self) -> Outcome
+    pub(crate) fn numbers(self) -> Outcome
         ensures { λ r. ⌜ r ≡ outcomeOf self ⌝ }
     {
         let phase = self.phase;
@@ -64,14 +64,4 @@ impl Run {
             failed: tally::sum_of(failed, locks),
         }
     }
-}
-
-// Runs a file, accepted or refused, to its end under a ceiling of steps.
-pub fn run_file(file: &[u8], ceiling: u64) -> Outcome
-    ensures { λ r. ⌜ r ≡ fileOutcome ceiling (now (file .entry)) ⌝ }
-{
-    let schedule = nightfile::schedule_part(file);
-    let run = crate::beginning::begin(file);
-    let end = run.finish(schedule, ceiling);
-    end.numbers()
 }

@@ -1,13 +1,13 @@
 use Rattle.run.specs.Outcomes.{fileOutcome, fileCourse}
 use borrow.Author.Needs.{needs}
-use Rattle.run.proofs.results.run_file.Statement.{statement}
-use Rattle.run.proofs.results.run_file.Tie as tie
-use Rattle.run.proofs.results.run_file.Reads as reads
-use Rattle.run.proofs.results.run_file.Lts as lts
+use Rattle.run.proofs.run_file.Statement.{statement}
+use Rattle.run.proofs.run_file.Tie as tie
+use Rattle.run.proofs.run_file.Reads as reads
+use Rattle.run.proofs.run_file.Lts as lts
 use Rattle.nightfile.proofs.schedule_part.Reads as schedule-part-reads
 use Rattle.run.proofs.Run.finish.Reads as finish-reads
 use Rattle.run.proofs.Run.numbers.Reads as numbers-reads
-use Rattle.run.proofs.beginning.begin.Reads as begin-reads
+use Rattle.run.proofs.begin.Reads as begin-reads
 
 -- src/results.rt:73:9
 schedule-part-requires : tie.Need-schedule-part-requires

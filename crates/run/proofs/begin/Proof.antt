@@ -2,10 +2,10 @@ use Rattle.run.specs.Standing.{beginning}
 use Rattle.ring.specs.Walk.{quiet}
 use Rattle.run.proofs.Told.{started-state}
 use borrow.Author.Needs.{needs}
-use Rattle.run.proofs.beginning.begin.Statement.{statement}
-use Rattle.run.proofs.beginning.begin.Tie as tie
-use Rattle.run.proofs.beginning.begin.Reads as reads
-use Rattle.run.proofs.beginning.begin.Lts as lts
+use Rattle.run.proofs.begin.Statement.{statement}
+use Rattle.run.proofs.begin.Tie as tie
+use Rattle.run.proofs.begin.Reads as reads
+use Rattle.run.proofs.begin.Lts as lts
 use Rattle.nightfile.proofs.file_number.Reads as file-number-reads
 use Rattle.nightfile.proofs.plan_part.Reads as plan-part-reads
 use Rattle.nightfile.proofs.read_plan.Reads as read-plan-reads
