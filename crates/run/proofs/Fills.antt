@@ -21,25 +21,25 @@ use Rattle.run.specs.Filling.{texts, fitting, stopsAt, written, filling,
 use Rattle.run.proofs.Ready.{ready-goes, course-over}
 
 -- what a course would leave in so many bytes: the run, and the text
-abbrev stopsIn : ℕ → Course → Run
+abbrev pub stopsIn : ℕ → Course → Run
 stopsIn room c = stopsAt room (c .lines) (c .end)
 
 -- a line that fits, and one that does not
-stops-fits : (room : ℕ) (l : Line) (before after : Run) (rest : Course) → length (text l) ≤ room
+pub stops-fits : (room : ℕ) (l : Line) (before after : Run) (rest : Course) → length (text l) ≤ room
     → stopsIn room (says l before after rest) ≡ stopsIn (room - length (text l)) rest
 unfolding says stopsAt
 stops-fits room l before after rest fits = simp (le-leb _ _ fits)
 
-stops-full : (room : ℕ) (l : Line) (before after : Run) (rest : Course) → room < length (text l) → stopsIn room (says l before after rest) ≡ before
+pub stops-full : (room : ℕ) (l : Line) (before after : Run) (rest : Course) → room < length (text l) → stopsIn room (says l before after rest) ≡ before
 unfolding says stopsAt
 stops-full room l before after rest full = simp (lt-leb _ _ full)
 
-written-fits : (room : ℕ) (l : Line) (before after : Run) (rest : Course) → length (text l) ≤ room
+pub written-fits : (room : ℕ) (l : Line) (before after : Run) (rest : Course) → length (text l) ≤ room
     → written room (says l before after rest) ≡ text l ++ written (room - length (text l)) rest
 unfolding written says fitting texts
 written-fits room l before after rest fits = simp (le-leb _ _ fits)
 
-written-full : (room : ℕ) (l : Line) (before after : Run) (rest : Course) → room < length (text l) → written room (says l before after rest) ≡ []
+pub written-full : (room : ℕ) (l : Line) (before after : Run) (rest : Course) → room < length (text l) → written room (says l before after rest) ≡ []
 unfolding written says fitting texts
 written-full room l before after rest full = simp (lt-leb _ _ full)
 

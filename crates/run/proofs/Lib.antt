@@ -5,3 +5,4 @@ pub mod Told
 pub mod Way
 pub mod Behind
 pub mod Fills
+pub mod Buffers

@@ -36,3 +36,13 @@ filling room course = record { run = stopsAt room (course .lines) (course .end);
 
 unfoldable pub filledBuffer : List ℕ → Course → List ℕ
 filledBuffer buffer course = written (length buffer) course ++ drop (length (written (length buffer) course)) buffer
+
+-- buffers filled one after the other: what they hold, and the run after the last
+unfoldable pub inBuffers : ℕ → List ℕ → List ℕ → Run → List ℕ
+inBuffers ceiling schedule [] run = []
+inBuffers ceiling schedule (room ∷ rooms) run =
+    written room (course ceiling schedule run) ++ inBuffers ceiling schedule rooms (filling room (course ceiling schedule run) .run)
+
+unfoldable pub afterBuffers : ℕ → List ℕ → List ℕ → Run → Run
+afterBuffers ceiling schedule [] run = run
+afterBuffers ceiling schedule (room ∷ rooms) run = afterBuffers ceiling schedule rooms (filling room (course ceiling schedule run) .run)
