@@ -6,3 +6,4 @@ pub mod Way
 pub mod Behind
 pub mod Fills
 pub mod Buffers
+pub mod Sum

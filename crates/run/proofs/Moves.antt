@@ -113,7 +113,7 @@ all-told ceiling schedule run i past =
     course-items ceiling schedule run i ∙ ap (λ (n : ℕ). telling n run (onSteps ceiling schedule)) none
 
 -- telling does not look at what comes then but at runs that differ in the next node only
-abbrev withNext : Run → ℕ → Run
+abbrev pub withNext : Run → ℕ → Run
 withNext run next = record { reached = run .reached; at = run .at; left = run .left; events = run .events; next = next; phase = run .phase; over = run .over }
 
 told-same : (n : ℕ) (run : Run) (f g : Run → Course) → ((next : ℕ) → f (withNext run next) ≡ g (withNext run next)) → telling n run f ≡ telling n run g
