@@ -1,21 +1,20 @@
 -- The loop that fills a buffer: what is written so far, and what the run still says, are together what it said from the start.
-use Prim.Native.Nat.{ℕ, zero, suc, _+_, _-_, _≤_, _<_}
+use Prim.Native.Nat.{ℕ, suc, _+_, _-_, _≤_, _<_}
 use mathlib.Core.Path.{_≡_, refl, _∙_, sym, ap}
 use mathlib.Core.Bool.{Bool, true, false, cond}
-use mathlib.Core.List.{List, [], _∷_, _++_, append-nil, append-assoc}
+use mathlib.Core.List.{List, [], _++_, append-nil, append-assoc}
 use native.Mathlib.Omega.{arith}
 use lib.Dec.{leb}
 use lib.ListN.{length, take, drop, length-append, length-drop, take-append-drop}
-use lib.Seq.{length-take-le, take-at, drop-at, drop-drop, take-append-add, drop-append-add}
+use lib.Seq.{length-take-le, take-at, drop-at, drop-drop}
 use borrow.Author.Tests.{le-leb, lt-leb, leb-true, leb-false}
 use Rattle.lines.specs.Line.{bufferAfter}
 use Rattle.lines.proofs.Laws.{line-length}
 use Rattle.run.specs.declared.Run.{Run}
 use Rattle.run.specs.declared.Line.{Line}
 use Rattle.run.specs.declared.Saying.{Saying}
-use Rattle.run.specs.declared.Filled.{Filled}
 use Rattle.run.specs.Wording.{text}
-use Rattle.run.specs.Whole.{Said, Course, says, silence, course}
+use Rattle.run.specs.Whole.{Course, says, silence, course}
 use Rattle.run.specs.Current.{ready, sayingNow}
 use Rattle.run.specs.Filling.{texts, fitting, stopsAt, written, filling, filledBuffer}
 use Rattle.run.proofs.Ready.{ready-goes, course-over}
@@ -78,9 +77,9 @@ full-by : (ceiling : ℕ) (schedule buffer : List ℕ) (start run : Run) (used :
 unfolding filling filledBuffer
 full-by ceiling schedule buffer start run used bytes f s w =
     let text-is : take used bytes ≡ written (length buffer) (course ceiling schedule start) =
-        sym (append-nil (take used bytes)) ∙ ap (λ (l : List ℕ). take used bytes ++ l) (sym w) ∙ f .wrote in
+    sym (append-nil (take used bytes)) ∙ ap (λ (l : List ℕ). take used bytes ++ l) (sym w) ∙ f .wrote in
     let count : used ≡ length (written (length buffer) (course ceiling schedule start)) =
-        sym (length-take-le used bytes (f .inside)) ∙ ap length text-is in
+    sym (length-take-le used bytes (f .inside)) ∙ ap length text-is in
     record {
       answer = λ i. record { run = (sym s ∙ f .stops) i; used = count i };
       content = sym (take-append-drop used bytes) ∙ (λ i. text-is i ++ f .rest i) ∙ ap (λ (n : ℕ). written (length buffer) (course ceiling schedule start) ++ drop n buffer) count;
@@ -158,10 +157,10 @@ fills-line ceiling schedule buffer start run after used bytes next n said f o s 
     let goes = said-goes ceiling schedule run said (f .ready-now) o s in
     let top : take (used + n) next ≡ take used bytes ++ text line = ap (take (used + n)) split ∙ take-at (take used bytes ++ text line) (drop (length (text line)) (drop used bytes)) (used + n) seam in
     let behind : drop (length (text line)) (drop used bytes) ≡ drop (used + n) buffer =
-        ap (drop (length (text line))) (f .rest) ∙ drop-drop (length (text line)) used buffer ∙ ap (λ (m : ℕ). drop (used + m) buffer) (sym count) in
+    ap (drop (length (text line))) (f .rest) ∙ drop-drop (length (text line)) used buffer ∙ ap (λ (m : ℕ). drop (used + m) buffer) (sym count) in
     let kept : length next ≡ length buffer =
-        omega
-        (arith, ap length content, length-append (take used bytes) (text line ++ drop (length (text line)) (drop used bytes)), length-append (text line) (drop (length (text line)) (drop used bytes)), length-drop (length (text line)) (drop used bytes), length-drop used bytes, front, room, f .long, f .within) in
+    omega
+    (arith, ap length content, length-append (take used bytes) (text line ++ drop (length (text line)) (drop used bytes)), length-append (text line) (drop (length (text line)) (drop used bytes)), length-drop (length (text line)) (drop used bytes), length-drop used bytes, front, room, f .long, f .within) in
     record {
       ready-now = r;
       within = omega (arith, room, count, f .within);

@@ -2,10 +2,9 @@
 use Prim.Native.Nat.{ℕ, zero, suc, _+_, _-_, _≤_, _<_}
 use mathlib.Core.Path.{_≡_, refl, _∙_, sym, ap}
 use mathlib.Core.Bool.{Bool, true, false, cond, _&&_}
-use mathlib.Core.List.{List, [], _∷_}
+use mathlib.Core.List.{List, []}
 use native.Mathlib.Omega.{arith}
 use lib.Dec.{eqb, leb, ltb}
-use lib.ListN.{length}
 use borrow.Author.Tests.{lt-ltb, le-ltb}
 use Rattle.plan.specs.declared.Plan.{Plan}
 use Rattle.plan.specs.Plan.{inRange, nodeCount}
@@ -20,11 +19,10 @@ use Rattle.ring.specs.declared.State.{State}
 use Rattle.ring.specs.Actions.{actionNumber, actedState, handedBack, actingSound}
 use Rattle.ring.specs.Step.{StepTold, stepNumber, nextState, refused, done, moving, steppingSound}
 use Rattle.run.specs.declared.Run.{Run}
-use Rattle.run.specs.declared.Phase.{Phase}
-use Rattle.run.specs.declared.Phase.the-variants.{Items, Ended, Cut, Refused}
-use Rattle.run.specs.Standing.{nodesOf, locksOf, reachedNext, oneStep, past, stepsItem, actionItem, atEnd, allSaid}
-use Rattle.run.specs.Wording.{eventHere, isEvent, eventLine, actionLine, lockLine, lastLine, refusalLine}
-use Rattle.run.specs.Whole.{Course, says, silence, telling, tellingAll, closing, closingAll, manySteps, items, itemsFrom, onItems, onSteps, working, courseIn, course, andOthers}
+use Rattle.run.specs.declared.Phase.the-variants.{Items, Ended, Cut}
+use Rattle.run.specs.Standing.{nodesOf, reachedNext, oneStep, past, stepsItem, actionItem, atEnd}
+use Rattle.run.specs.Wording.{eventHere, isEvent, eventLine, actionLine}
+use Rattle.run.specs.Whole.{Course, says, telling, tellingAll, closingAll, manySteps, items, itemsFrom, onItems, onSteps, working, courseIn, course, andOthers}
 use Rattle.run.proofs.Found.{items-found, items-none}
 
 -- the plan stays as it is

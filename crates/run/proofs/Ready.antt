@@ -1,7 +1,7 @@
 -- A run that is ready says the line that it is at, and goes on from the run after it.
 use Prim.Native.Nat.{ℕ, zero, suc, _+_, _-_, _≤_, _<_}
 use mathlib.Core.Path.{_≡_, refl, _∙_, sym, ap, subst}
-use mathlib.Core.Bool.{Bool, true, false, cond, _&&_, _||_}
+use mathlib.Core.Bool.{Bool, true, false, cond, _&&_}
 use mathlib.Core.List.{List}
 use native.Mathlib.Omega.{arith}
 use lib.Dec.{eqb, ltb, T}
@@ -17,7 +17,7 @@ use Rattle.run.specs.declared.Phase.{Phase}
 use Rattle.run.specs.declared.Phase.the-variants.{Items, Ended, Cut, Refused}
 use Rattle.run.specs.Standing.{nodesOf, locksOf, past, allSaid}
 use Rattle.run.specs.Wording.{eventHere, isEvent, eventLine, lockLine, lastLine, refusalLine}
-use Rattle.run.specs.Whole.{Course, says, silence, closing, closingAll, courseIn, course}
+use Rattle.run.specs.Whole.{says, silence, closing, closingAll, courseIn, course}
 use Rattle.run.specs.Current.{saying, answerHere, isAct, isAction, readyIn, ready, actSaying, answerSaying, endSaying, sayingIn, sayingNow}
 use Rattle.run.proofs.Moves.{AtItems, on-event, on-action}
 

@@ -5,21 +5,20 @@ use mathlib.Core.Bool.{Bool, true, false, cond}
 use mathlib.Core.List.{List, [], _∷_, append-nil}
 use native.Mathlib.Nat.{zero-add}
 use native.Mathlib.Omega.{arith}
-use lib.Dec.{ltb, eqb}
-use borrow.Author.Tests.{ltb-true, ltb-false, lt-ltb, le-ltb, eqb-true, eqb-false, eq-eqb, ne-eqb}
+use lib.Dec.{ltb}
+use borrow.Author.Tests.{ltb-true, ltb-false, lt-ltb, le-ltb, eq-eqb, ne-eqb}
 use Rattle.nightfile.specs.declared.Item.{Item}
 use Rattle.nightfile.specs.declared.Item.the-variants.{Steps, Act}
 use Rattle.nightfile.specs.File.{fileNumber, schedulePart}
 use Rattle.run.specs.declared.Reached.{Reached}
 use Rattle.run.specs.declared.Run.{Run}
 use Rattle.run.specs.declared.Phase.{Phase}
-use Rattle.run.specs.declared.Phase.the-variants.{Items, Ended, Cut, Refused}
-use Rattle.run.specs.declared.Outcome.{Outcome}
+use Rattle.run.specs.declared.Phase.the-variants.{Ended, Cut, Refused}
 use Rattle.run.specs.Standing.{nodesOf, beginning, reachedNext, oneStep, past, stepsItem, actionItem, atEnd, allSaid}
 use Rattle.lines.specs.Line.{line}
 use Rattle.run.specs.Filling.{texts}
 use Rattle.run.specs.Wording.{text, lineOf, eventHere, isEvent, refusalLine, endLetter}
-use Rattle.run.specs.Whole.{Said, Course, says, silence, telling, tellingAll, closing, closingAll, manySteps, items, itemsFrom, onItems, onSteps, working, courseIn, course}
+use Rattle.run.specs.Whole.{Course, says, silence, telling, tellingAll, closing, closingAll, manySteps, items, itemsFrom, onItems, onSteps, working, courseIn, course}
 use Rattle.run.proofs.Moves.{AtItems, course-items, withNext}
 use Rattle.run.specs.Outcomes.{refusalOf, isCut, outcomeOf, fileCourse, fileOutcome, fileText, stepsIn, scheduleSum}
 

@@ -1,7 +1,6 @@
 -- The parts of what the model's answers tell.
 use Prim.Native.Nat.{ℕ}
 use mathlib.Core.Path.{_≡_, ap}
-use mathlib.Core.List.{List}
 use Rattle.plan.specs.declared.Plan.{Plan}
 use Rattle.usernode.specs.declared.Action.{Action}
 use Rattle.usernode.specs.Actions.{actionAnswerNumber}

@@ -1,10 +1,9 @@
 -- The way of a run to its next line: each turn of the loop leaves its course as it was, and brings it nearer.
 use Prim.Native.Nat.{ℕ, _+_, _-_, _*_, _≤_, _<_}
 use mathlib.Core.Path.{_≡_, refl, _∙_, sym, ap}
-use mathlib.Core.Bool.{Bool, true, false, cond, _||_}
-use mathlib.Core.List.{List, [], _∷_}
+use mathlib.Core.Bool.{true, false}
+use mathlib.Core.List.{List, []}
 use native.Mathlib.Omega.{arith}
-use lib.Dec.{eqb, ltb}
 use lib.ListN.{length}
 use borrow.Author.Tests.{lt-ltb, le-ltb, eq-eqb}
 use Rattle.usernode.specs.declared.Action.{Action}
@@ -13,7 +12,6 @@ use Rattle.nightfile.specs.declared.Item.the-variants.{Steps, Act}
 use Rattle.nightfile.specs.declared.ItemAnswer.the-variants.{Found}
 use Rattle.nightfile.specs.Items.{readAt}
 use Rattle.run.specs.declared.Run.{Run}
-use Rattle.run.specs.declared.Phase.{Phase}
 use Rattle.run.specs.declared.Phase.the-variants.{Items, Ended, Cut}
 use Rattle.run.specs.Standing.{nodesOf, oneStep, past, stepsItem, atEnd}
 use Rattle.run.specs.Wording.{eventHere, isEvent}

@@ -1,12 +1,11 @@
 -- 01, "The run and its lines": where a run stands, and how one step, one item and the end change that.
 use Prim.Native.Nat.{ℕ, _+_, _-_}
-use mathlib.Core.Bool.{Bool, cond, true, false}
+use mathlib.Core.Bool.{cond, true, false}
 use mathlib.Core.List.{List}
 use lib.Dec.{eqb}
 use lib.ListN.{replicate}
 use Rattle.plan.specs.Plan.{nodePlaces, nodeCount}
 use Rattle.usernode.specs.declared.Action.{Action}
-use Rattle.ring.specs.declared.State.{State}
 use Rattle.ring.specs.State.{startState}
 use Rattle.ring.specs.Actions.{actingSound}
 use Rattle.ring.specs.Walk.{quiet}

@@ -1,7 +1,7 @@
 -- 01, "The run and its lines": the whole of a run. The items in order, the events of each step, then the locks, then the last line.
 -- Each line stands with the run before and after it; `end` is the run when all is said.
-use Prim.Native.Nat.{ℕ, zero, suc, _+_, _-_}
-use mathlib.Core.Bool.{Bool, cond}
+use Prim.Native.Nat.{ℕ, zero, suc, _-_}
+use mathlib.Core.Bool.{cond}
 use mathlib.Core.List.{List, [], _∷_}
 use lib.Dec.{ltb}
 use lib.ListN.{length}

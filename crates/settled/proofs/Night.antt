@@ -1,8 +1,9 @@
--- One theorem for each public function of the night file, the line writer and the tally: two answers that keep its promise are equal. A
+-- One theorem for each public function of the night file, the line writer, the tally and the run: two answers that keep its promise are equal. A
 -- part of the caller's file is told by its bytes; a line's answer stands with the buffer's content.
 use Prim.Native.Nat.{ℕ}
 use mathlib.Core.Path.{_≡_}
 use mathlib.Core.List.{List}
+use lib.ListN.{length}
 use Rattle.usernode.specs.declared.Node.{Node}
 use Rattle.ring.specs.declared.Happening.{Happening}
 use Rattle.nightfile.specs.declared.FileAnswer.{FileAnswer}
@@ -13,6 +14,11 @@ use Rattle.lines.specs.declared.Written.{Written}
 use Rattle.lines.specs.Line.{line, bufferAfter, writtenNumber, writtenTold, writing}
 use Rattle.tally.specs.declared.Tally.{Tally}
 use Rattle.tally.specs.Tally.{emptyTally, stepTally, sumOf}
+use Rattle.run.specs.declared.Run.{Run}
+use Rattle.run.specs.Standing.{beginning}
+use Rattle.run.specs.Whole.{course}
+use Rattle.run.specs.Filling.{filling, filledBuffer}
+use Rattle.run.specs.Outcomes.{fileOutcome}
 use Rattle.settled.specs.Settled.{Settled}
 use Rattle.settled.proofs.Apart.{settled, settled-by, file-apart, written-apart}
 
@@ -64,3 +70,16 @@ step-tally-settled nodes events count locks tally = settled (stepTally nodes eve
 
 pub sum-of-settled : (counts : List ℕ) (locks : ℕ) → Settled (λ r. r ≡ sumOf counts locks)
 sum-of-settled counts locks = settled (sumOf counts locks)
+
+-- run
+pub begin-settled : (file : List ℕ) → Settled (λ r. r ≡ beginning file)
+begin-settled file = settled (beginning file)
+
+pub fill-settled : (buffer schedule : List ℕ) (ceiling : ℕ) (run : Run) → Settled (λ r. r ≡ filling (length buffer) (course ceiling schedule run))
+fill-settled buffer schedule ceiling run = settled (filling (length buffer) (course ceiling schedule run))
+
+pub filled-buffer-settled : (buffer schedule : List ℕ) (ceiling : ℕ) (run : Run) → Settled (λ r. r ≡ filledBuffer buffer (course ceiling schedule run))
+filled-buffer-settled buffer schedule ceiling run = settled (filledBuffer buffer (course ceiling schedule run))
+
+pub run-file-settled : (file : List ℕ) (ceiling : ℕ) → Settled (λ r. r ≡ fileOutcome ceiling file)
+run-file-settled file ceiling = settled (fileOutcome ceiling file)

@@ -1,3 +1,4 @@
+-- `Run::action_saying` meets its contract. On each way to a return, the tests and calls on the way choose the case of the definition.
 use Rattle.run.proofs.Told.{acted-state, acted-number}
 use Rattle.run.specs.Current.{saying}
 use Rattle.run.specs.Wording.{actionLine, actionRefusal}
@@ -5,25 +6,16 @@ use Rattle.run.specs.Standing.{actionItem}
 use borrow.Author.Needs.{needs}
 use Rattle.run.proofs.Run.action_saying.Statement.{statement}
 use Rattle.run.proofs.Run.action_saying.Tie as tie
-use Rattle.run.proofs.Run.action_saying.Reads as reads
-use Rattle.run.proofs.Run.action_saying.Lts as lts
-use Rattle.ring.proofs.State.act_sound.Reads as act-sound-reads
-use Rattle.run.proofs.Run.action_line.Reads as action-line-reads
-use Rattle.usernode.proofs.answer_number.Reads as answer-number-reads
 
--- src/current.rt:131:13
 act-sound-requires : tie.Need-act-sound-requires
 act-sound-requires c κs = search needs
 
--- src/current.rt:133:57
 answer-number-requires : tie.Need-answer-number-requires
 answer-number-requires c κs = search needs
 
--- src/current.rt:133:13
 action-line-requires : tie.Need-action-line-requires
 action-line-requires c κs = search needs
 
--- src/current.rt:126:5
 returns : tie.Need-returns
 unfolding saying actionLine actionItem actionRefusal
 returns c = simp (c .before .before .before .before .before .before .pre, c .before .before .action-line .ensures, c .before .before .before .answer-number .ensures, acted-state _ _ _ _ _ (c .before .before .before .before .act-sound .ensures), acted-number _ _ _ _ _ (c .before .before .before .before .act-sound .ensures))

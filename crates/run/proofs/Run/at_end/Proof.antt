@@ -1,11 +1,9 @@
+-- `Run::at_end` meets its contract. On each way to a return, the tests and calls on the way choose the case of the definition.
 use Rattle.run.specs.Standing.{atEnd}
 use mathlib.Core.Path.{refl}
 use Rattle.run.proofs.Run.at_end.Statement.{statement}
 use Rattle.run.proofs.Run.at_end.Tie as tie
-use Rattle.run.proofs.Run.at_end.Reads as reads
-use Rattle.run.proofs.Run.at_end.Lts as lts
 
--- src/onward.rt:62:5
 returns : tie.Need-returns
 unfolding atEnd
 returns c = refl

@@ -7,11 +7,6 @@ use Rattle.run.specs.Filling.{filling, filledBuffer}
 use Rattle.run.proofs.Fills.{full-over, full-line, fewer-lines, Filling, filling-none, room-enough, filling-line}
 use Rattle.run.proofs.Run.fill.Statement.{statement}
 use Rattle.run.proofs.Run.fill.Tie as tie
-use Rattle.run.proofs.Run.fill.Reads as reads
-use Rattle.run.proofs.Run.fill.Lts as lts
-use Rattle.run.proofs.Run.onward.Reads as onward-reads
-use Rattle.run.proofs.Run.say.Reads as say-reads
-use Rattle.run.proofs.filling.put.Reads as put-reads
 
 abbrev Inv-loop : tie.InvT-loop
 Inv-loop schedule ceiling buffer₀ size run₀ room₀ buffer run room = Filling ceiling schedule buffer₀ run₀ run size room buffer
@@ -19,59 +14,46 @@ Inv-loop schedule ceiling buffer₀ size run₀ room₀ buffer run room = Fillin
 abbrev μ-loop : tie.MeasureT-loop
 μ-loop schedule ceiling buffer₀ size run₀ room₀ buffer run room = length (course ceiling schedule run .lines)
 
--- src/filling.rt:43:13
 onward-requires : tie.Need-onward-requires Inv-loop μ-loop
 onward-requires c κs = search needs
 
--- src/filling.rt:45:9
 loop-holds : tie.Need-loop-holds Inv-loop μ-loop
 loop-holds c = filling-none _ _ _ _ (c .onward .ensures .1)
 
--- src/filling.rt:46:24
 sub-used : tie.Need-sub-used Inv-loop μ-loop
 sub-used c = c .loop .inv .roomy
 
--- src/filling.rt:48:17
 same-length : tie.Need-same-length Inv-loop μ-loop
 same-length c = c .before .loop .inv .fills .long
 
--- src/filling.rt:48:17
 returns : tie.Need-returns Inv-loop μ-loop
 returns c =
     let full = full-over _ _ _ _ _ _ _ (c .before .loop .inv .fills) (c .if1 .taken) in
     (full .answer ∙ ap (filling _) (c .before .before .onward .ensures .0), full .content ∙ ap (filledBuffer _) (c .before .before .onward .ensures .0))
 
--- src/filling.rt:53:17
 say-requires : tie.Need-say-requires Inv-loop μ-loop
 say-requires c κs = search needs
 
--- src/filling.rt:55:17
 put-requires : tie.Need-put-requires Inv-loop μ-loop
 put-requires c κs = c .before .before .before .before .loop .inv .fills .inside
 
--- src/filling.rt:57:17
 same-length-2 : tie.Need-same-length-2 Inv-loop μ-loop
 same-length-2 c = c .before .before .before .put .kept .1 .0 ∙ c .before .before .before .before .before .before .before .before .loop .inv .fills .long
 
--- src/filling.rt:57:17
 returns-2 : tie.Need-returns-2 Inv-loop μ-loop
 returns-2 c =
     let full = full-line _ _ _ _ _ _ _ _ _ _ (c .before .before .before .before .before .before .before .before .loop .inv .fills) (c .before .before .before .before .before .before .before .if1 .left) (c .before .before .before .before .before .before .say .ensures) (c .before .before .before .put .ensures .0) (c .if2 .taken) (c .before .before .before .put .ensures .1) in
     (full .answer ∙ ap (filling _) (c .before .before .before .before .before .before .before .before .before .onward .ensures .0), full .content ∙ ap (filledBuffer _) (c .before .before .before .before .before .before .before .before .before .onward .ensures .0))
 
--- src/filling.rt:63:13
 onward-requires-2 : tie.Need-onward-requires-2 Inv-loop μ-loop
 onward-requires-2 c κs = search needs
 
--- src/filling.rt:64:13
 sub-room : tie.Need-sub-room Inv-loop μ-loop
 sub-room c = room-enough _ _ _ _ _ _ _ _ _ _ (c .before .before .before .before .before .before .before .before .before .before .loop .inv) (c .before .before .before .before .before .put .ensures .0)
 
--- src/filling.rt:45:9
 loop-less : tie.Need-loop-less Inv-loop μ-loop
 loop-less c = fewer-lines _ _ _ _ _ (c .before .before .before .before .before .before .before .before .before .before .loop .inv .fills .ready-now) (c .before .before .before .before .before .before .before .before .before .if1 .left) (c .before .before .before .before .before .before .before .before .say .ensures) (c .onward2 .ensures .0)
 
--- src/filling.rt:45:9
 loop-again : tie.Need-loop-again Inv-loop μ-loop
 loop-again c =
     filling-line _ _ _ _ _ _ _ _ _ _ _ _ (c .before .before .before .before .before .before .before .before .before .before .loop .inv) (c .before .before .before .before .before .before .before .before .before .if1 .left) (c .before .before .before .before .before .before .before .before .say .ensures) (c .before .before .before .before .before .put .ensures .0) (c .before .before .if2 .left) (c .before .before .before .before .before .put .ensures .1) (c .onward2 .ensures .0) (c .onward2 .ensures .1)

@@ -8,10 +8,6 @@ use Rattle.run.specs.Current.{ready}
 use Rattle.run.proofs.Fills.{fewer-lines, same-end, end-over}
 use Rattle.run.proofs.Run.finish.Statement.{statement}
 use Rattle.run.proofs.Run.finish.Tie as tie
-use Rattle.run.proofs.Run.finish.Reads as reads
-use Rattle.run.proofs.Run.finish.Lts as lts
-use Rattle.run.proofs.Run.onward.Reads as onward-reads
-use Rattle.run.proofs.Run.say.Reads as say-reads
 
 abbrev Inv-loop : tie.InvT-loop
 Inv-loop schedule ceiling run₀ run = record { ready-now : ready schedule run ≡ true; same : course ceiling schedule run .end ≡ course ceiling schedule run₀ .end }
@@ -19,31 +15,24 @@ Inv-loop schedule ceiling run₀ run = record { ready-now : ready schedule run �
 abbrev μ-loop : tie.MeasureT-loop
 μ-loop schedule ceiling run₀ run = length (course ceiling schedule run .lines)
 
--- src/results.rt:38:13
 onward-requires : tie.Need-onward-requires Inv-loop μ-loop
 onward-requires c κs = search needs
 
--- src/results.rt:39:9
 loop-holds : tie.Need-loop-holds Inv-loop μ-loop
 loop-holds c = record { ready-now = c .onward .ensures .1; same = refl }
 
--- src/results.rt:41:17
 returns : tie.Need-returns Inv-loop μ-loop
 returns c = sym (end-over _ _ _ (c .if1 .taken)) ∙ c .before .loop .inv .same ∙ ap (λ (k : Course). k .end) (c .before .before .onward .ensures .0)
 
--- src/results.rt:43:17
 say-requires : tie.Need-say-requires Inv-loop μ-loop
 say-requires c κs = search needs
 
--- src/results.rt:45:13
 onward-requires-2 : tie.Need-onward-requires-2 Inv-loop μ-loop
 onward-requires-2 c κs = search needs
 
--- src/results.rt:39:9
 loop-less : tie.Need-loop-less Inv-loop μ-loop
 loop-less c = fewer-lines _ _ _ _ _ (c .before .before .before .before .loop .inv .ready-now) (c .before .before .before .if1 .left) (c .before .before .say .ensures) (c .onward2 .ensures .0)
 
--- src/results.rt:39:9
 loop-again : tie.Need-loop-again Inv-loop μ-loop
 loop-again c = record { ready-now = c .onward2 .ensures .1; same = same-end _ _ _ _ _ (c .before .before .before .before .loop .inv .ready-now) (c .before .before .before .if1 .left) (c .before .before .say .ensures) (c .onward2 .ensures .0) ∙ c .before .before .before .before .loop .inv .same }
 

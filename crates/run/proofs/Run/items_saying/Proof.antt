@@ -1,35 +1,26 @@
+-- `Run::items_saying` meets its contract. On each way to a return, the tests and calls on the way choose the case of the definition.
 use native.Mathlib.Omega.{arith}
 use Rattle.run.proofs.Moves.{nodes-most}
 use Rattle.run.specs.Current.{sayingIn}
-use borrow.Author.Tests.{le-leb, le-ltb, lt-leb, lt-ltb}
+use borrow.Author.Tests.{le-ltb, lt-ltb}
 use borrow.Author.Needs.{needs}
 use Rattle.run.proofs.Run.items_saying.Statement.{statement}
 use Rattle.run.proofs.Run.items_saying.Tie as tie
-use Rattle.run.proofs.Run.items_saying.Reads as reads
-use Rattle.run.proofs.Run.items_saying.Lts as lts
-use Rattle.run.proofs.Run.answer_saying.Reads as answer-saying-reads
-use Rattle.run.proofs.Run.event_saying.Reads as event-saying-reads
-use Rattle.run.proofs.Run.nodes.Reads as nodes-reads
 
--- src/current.rt:251:24
 nodes-requires : tie.Need-nodes-requires
 nodes-requires c κs = search needs
 
--- src/current.rt:252:13
 event-saying-requires : tie.Need-event-saying-requires
 event-saying-requires c κs =
     omega (arith, c .if1 .taken, nodes-most (c .before .before .before .before .args .self), c .before .before .nodes .ensures)
 
--- src/current.rt:252:13
 returns : tie.Need-returns
 unfolding sayingIn
 returns c = simp (c .event-saying .ensures, lt-ltb _ _ (c .before .if1 .taken), ← c .before .before .before .nodes .ensures)
 
--- src/current.rt:254:9
 answer-saying-requires : tie.Need-answer-saying-requires
 answer-saying-requires c κs = search needs
 
--- src/current.rt:248:5
 returns-2 : tie.Need-returns-2
 unfolding sayingIn
 returns-2 c = simp (c .answer-saying .ensures, le-ltb _ _ (c .before .if1 .left), ← c .before .before .before .nodes .ensures)

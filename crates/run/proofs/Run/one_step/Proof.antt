@@ -1,35 +1,25 @@
+-- `Run::one_step` meets its contract. On each way to a return, the tests and calls on the way choose the case of the definition.
 use Rattle.run.specs.Standing.{oneStep, reachedNext}
 use Rattle.run.proofs.Told.{stepped-state, stepped-events}
 use borrow.Author.Needs.{needs}
 use Rattle.run.proofs.Run.one_step.Statement.{statement}
 use Rattle.run.proofs.Run.one_step.Tie as tie
-use Rattle.run.proofs.Run.one_step.Reads as reads
-use Rattle.run.proofs.Run.one_step.Lts as lts
-use Rattle.plan.proofs.Plan.nodes.Reads as nodes-reads
-use Rattle.ring.proofs.State.step_sound.Reads as step-sound-reads
-use Rattle.tally.proofs.step_tally.Reads as step-tally-reads
 
--- src/onward.rt:39:13
 step-sound-requires : tie.Need-step-sound-requires
 step-sound-requires c κs = search needs
 
--- src/onward.rt:44:54
 nodes-requires : tie.Need-nodes-requires
 nodes-requires c κs = search needs
 
--- src/onward.rt:44:13
 step-tally-requires : tie.Need-step-tally-requires
 step-tally-requires c κs = search needs
 
--- src/onward.rt:50:24
 add-t12 : tie.Need-add-t12
 add-t12 c = search needs
 
--- src/onward.rt:53:19
 sub-t14 : tie.Need-sub-t14
 sub-t14 c = c .before .before .before .before .before .before .before .before .before .before .before .pre .0
 
--- src/onward.rt:33:5
 returns : tie.Need-returns
 unfolding oneStep reachedNext
 returns c = simp (c .before .before .step-tally .ensures, c .before .before .before .nodes2 .ensures, stepped-state _ _ (c .before .before .before .before .before .before .before .before .step-sound .ensures), stepped-events _ _ (c .before .before .before .before .before .before .before .before .step-sound .ensures))

@@ -1,16 +1,13 @@
+-- `Run::past` meets its contract. On each way to a return, the tests and calls on the way choose the case of the definition.
 use mathlib.Core.Path.{refl}
 use Rattle.run.specs.Standing.{past}
 use borrow.Author.Needs.{needs}
 use Rattle.run.proofs.Run.past.Statement.{statement}
 use Rattle.run.proofs.Run.past.Tie as tie
-use Rattle.run.proofs.Run.past.Reads as reads
-use Rattle.run.proofs.Run.past.Lts as lts
 
--- src/current.rt:60:9
 add-run : tie.Need-add-run
 add-run c = search needs
 
--- src/current.rt:55:5
 returns : tie.Need-returns
 unfolding past
 returns c = refl

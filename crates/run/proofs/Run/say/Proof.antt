@@ -1,61 +1,45 @@
+-- `Run::say` meets its contract. On each way to a return, the tests and calls on the way choose the case of the definition.
 use Rattle.run.specs.Current.{sayingNow, sayingIn}
 use borrow.Author.Needs.{needs}
 use Rattle.run.proofs.Run.say.Statement.{statement}
 use Rattle.run.proofs.Run.say.Tie as tie
-use Rattle.run.proofs.Run.say.Reads as reads
-use Rattle.run.proofs.Run.say.Lts as lts
-use Rattle.run.proofs.Run.end_saying.Reads as end-saying-reads
-use Rattle.run.proofs.Run.items_saying.Reads as items-saying-reads
-use Rattle.run.proofs.Run.refusal_saying.Reads as refusal-saying-reads
 
--- src/current.rt:263:29
 enum-told : tie.Need-enum-told
 enum-told c = search needs
 
--- src/current.rt:263:29
 items-saying-requires : tie.Need-items-saying-requires
 items-saying-requires c κs = search needs
 
--- src/current.rt:264:29
 enum-told-2 : tie.Need-enum-told-2
 enum-told-2 c = search needs
 
--- src/current.rt:264:29
 end-saying-requires : tie.Need-end-saying-requires
 end-saying-requires c κs = search needs
 
--- src/current.rt:265:27
 enum-told-3 : tie.Need-enum-told-3
 enum-told-3 c = search needs
 
--- src/current.rt:265:27
 end-saying-requires-2 : tie.Need-end-saying-requires-2
 end-saying-requires-2 c κs = search needs
 
--- src/current.rt:266:28
 enum-known-phase : tie.Need-enum-known-phase
 enum-known-phase c = search needs
 
--- src/current.rt:266:39
 refusal-saying-requires : tie.Need-refusal-saying-requires
 refusal-saying-requires c κs = search needs
 
--- src/current.rt:258:5
 returns : tie.Need-returns
 unfolding sayingNow sayingIn
 returns c = simp (c .items-saying .ensures, c .before .enum-told .given .1)
 
--- src/current.rt:258:5
 returns-2 : tie.Need-returns-2
 unfolding sayingNow sayingIn
 returns-2 c = simp (c .end-saying .ensures, c .before .enum-told2 .given .1)
 
--- src/current.rt:258:5
 returns-3 : tie.Need-returns-3
 unfolding sayingNow sayingIn
 returns-3 c = simp (c .end-saying2 .ensures, c .before .enum-told3 .given .1)
 
--- src/current.rt:258:5
 returns-4 : tie.Need-returns-4
 unfolding sayingNow sayingIn
 returns-4 c = simp (c .refusal-saying .ensures, c .before .before .phase .given .1)

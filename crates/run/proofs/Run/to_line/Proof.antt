@@ -1,6 +1,5 @@
 -- `Run::to_line` meets its contract. Each turn of its loop leaves the run's course as it was, and brings the run nearer to its next line.
-use mathlib.Core.Path.{_≡_, sym, ap, _∙_}
-use native.Mathlib.Omega.{arith}
+use mathlib.Core.Path.{sym, ap, _∙_}
 use borrow.Author.Needs.{needs}
 use Rattle.nightfile.specs.declared.ItemAnswer.{ItemAnswer}
 use Rattle.nightfile.specs.declared.ItemAnswer.the-variants.{Found}
@@ -13,13 +12,6 @@ use Rattle.run.proofs.Found.{found-moves}
 use Rattle.run.proofs.Way.{Way, toGo, sets-out, way-past, way-step, way-steps, past-nearer, step-nearer, steps-nearer, at-event, at-action, at-ceiling, at-items-end}
 use Rattle.run.proofs.Run.to_line.Statement.{statement}
 use Rattle.run.proofs.Run.to_line.Tie as tie
-use Rattle.run.proofs.Run.to_line.Reads as reads
-use Rattle.run.proofs.Run.to_line.Lts as lts
-use Rattle.nightfile.proofs.Cursor.read.Reads as read-reads
-use Rattle.run.proofs.Run.at_end.Reads as at-end-reads
-use Rattle.run.proofs.Run.nodes.Reads as nodes-reads
-use Rattle.run.proofs.Run.one_step.Reads as one-step-reads
-use Rattle.run.proofs.onward.is_event.Reads as is-event-reads
 
 abbrev Inv-loop : tie.InvT-loop
 Inv-loop schedule ceiling nodes run₀ run = Way ceiling schedule nodes run₀ run
@@ -27,82 +19,63 @@ Inv-loop schedule ceiling nodes run₀ run = Way ceiling schedule nodes run₀ r
 abbrev μ-loop : tie.MeasureT-loop
 μ-loop schedule ceiling nodes run₀ run = toGo schedule nodes run
 
--- src/onward.rt:85:13
 nodes-requires : tie.Need-nodes-requires Inv-loop μ-loop
 nodes-requires c κs = search needs
 
--- src/onward.rt:87:9
 loop-holds : tie.Need-loop-holds Inv-loop μ-loop
 loop-holds c = sets-out _ _ _ _ (c .before .before .pre .0) (c .before .before .pre .1) (c .nodes .ensures)
 
--- src/onward.rt:89:44
 cast-happening : tie.Need-cast-happening Inv-loop μ-loop
 cast-happening c = search needs
 
--- src/onward.rt:89:33
 mul-happening : tie.Need-mul-happening Inv-loop μ-loop
 mul-happening c = search needs
 
--- src/onward.rt:89:33
 element-copy-out-happening : tie.Need-element-copy-out-happening Inv-loop μ-loop
 element-copy-out-happening c = search needs
 
--- src/onward.rt:91:20
 is-event-requires : tie.Need-is-event-requires Inv-loop μ-loop
 is-event-requires c κs = search needs
 
--- src/onward.rt:92:21
 returns : tie.Need-returns Inv-loop μ-loop
 unfolding eventHere quiet
 returns c = at-event _ _ _ _ _ (c .before .before .before .before .loop .inv) (c .before .before .before .if1 .taken) (sym (c .before .is-event .ensures) ∙ c .if2 .taken)
 
--- src/onward.rt:94:17
 add-run : tie.Need-add-run Inv-loop μ-loop
 add-run c = search needs
 
--- src/onward.rt:87:9
 loop-less : tie.Need-loop-less Inv-loop μ-loop
 unfolding past
 loop-less c = past-nearer _ _ _ (c .before .before .before .if1 .taken)
 
--- src/onward.rt:87:9
 loop-again : tie.Need-loop-again Inv-loop μ-loop
 unfolding past eventHere quiet
 loop-again c = way-past _ _ _ _ _ (c .before .before .before .before .loop .inv) (c .before .before .before .if1 .taken) (sym (c .before .is-event .ensures) ∙ c .if2 .left)
 
--- src/onward.rt:97:21
 at-end-requires : tie.Need-at-end-requires Inv-loop μ-loop
 at-end-requires c κs = search needs
 
--- src/onward.rt:97:21
 returns-2 : tie.Need-returns-2 Inv-loop μ-loop
 returns-2 c = rw (c .at-end .ensures) (at-ceiling _ _ _ _ _ (c .before .before .before .before .loop .inv) (c .before .before .before .if1 .left) (c .before .before .if3 .taken) (c .before .if4 .taken))
 
--- src/onward.rt:99:23
 one-step-requires : tie.Need-one-step-requires Inv-loop μ-loop
 one-step-requires c κs = (c .before .if3 .taken, search needs)
 
--- src/onward.rt:87:9
 loop-less-2 : tie.Need-loop-less-2 Inv-loop μ-loop
 loop-less-2 c = rw (c .one-step .ensures) (step-nearer _ _ _ (c .before .before .before .before .loop .inv .most) (c .before .before .before .if1 .left) (c .before .before .if3 .taken))
 
--- src/onward.rt:87:9
 loop-again-2 : tie.Need-loop-again-2 Inv-loop μ-loop
 loop-again-2 c = rw (c .one-step .ensures) (way-step _ _ _ _ _ (c .before .before .before .before .loop .inv) (c .before .before .before .if1 .left) (c .before .before .if3 .taken) (c .before .if4 .left))
 
--- src/onward.rt:102:21
 read-requires : tie.Need-read-requires Inv-loop μ-loop
 read-requires c κs = search needs
 
--- src/onward.rt:105:50
 enum-told : tie.Need-enum-told Inv-loop μ-loop
 enum-told c = search needs
 
--- src/onward.rt:105:43
 at-end-requires-2 : tie.Need-at-end-requires-2 Inv-loop μ-loop
 at-end-requires-2 c κs = search needs
 
--- src/onward.rt:105:43
 returns-3 : tie.Need-returns-3 Inv-loop μ-loop
 unfolding andOthers
 returns-3 c =
@@ -110,41 +83,32 @@ returns-3 c =
     (at-items-end _ _ _ _ _ (c .before .before .before .before .before .before .loop .inv) (c .before .before .before .before .before .if1 .left) (c .before .before .before .before .if3 .left)
     (λ others. ap (λ (a : ItemAnswer). andOthers a others) (ap (λ (r : Reading). r .answer) (sym (c .before .before .before .read .ensures)) ∙ c .before .enum-told .given .1)))
 
--- src/onward.rt:106:39
 enum-known-answer : tie.Need-enum-known-answer Inv-loop μ-loop
 enum-known-answer c = search needs
 
--- src/onward.rt:107:37
 enum-known-item : tie.Need-enum-known-item Inv-loop μ-loop
 enum-known-item c = search needs
 
--- src/onward.rt:87:9
 loop-less-3 : tie.Need-loop-less-3 Inv-loop μ-loop
 unfolding stepsItem
 loop-less-3 c = rw (ap (λ (r : Reading). r .at) (c .before .before .before .before .before .before .read .ensures) ∙ found-moves _ _ _ (ap (λ (r : Reading). r .answer) (sym (c .before .before .before .before .before .before .read .ensures)) ∙ c .before .before .before .before .answer .given .1 ∙ ap Found (c .before .item .given .1)) .0) (steps-nearer _ _ _ _ (c .before .before .before .before .before .before .before .if3 .left) (ap (λ (r : Reading). r .answer) (sym (c .before .before .before .before .before .before .read .ensures)) ∙ c .before .before .before .before .answer .given .1 ∙ ap Found (c .before .item .given .1)))
 
--- src/onward.rt:87:9
 loop-again-3 : tie.Need-loop-again-3 Inv-loop μ-loop
 unfolding stepsItem
 loop-again-3 c = rw (ap (λ (r : Reading). r .at) (c .before .before .before .before .before .before .read .ensures) ∙ found-moves _ _ _ (ap (λ (r : Reading). r .answer) (sym (c .before .before .before .before .before .before .read .ensures)) ∙ c .before .before .before .before .answer .given .1 ∙ ap Found (c .before .item .given .1)) .0) (way-steps _ _ _ _ _ _ (c .before .before .before .before .before .before .before .before .before .loop .inv) (c .before .before .before .before .before .before .before .before .if1 .left) (c .before .before .before .before .before .before .before .if3 .left) (ap (λ (r : Reading). r .answer) (sym (c .before .before .before .before .before .before .read .ensures)) ∙ c .before .before .before .before .answer .given .1 ∙ ap Found (c .before .item .given .1)))
 
--- src/onward.rt:111:37
 enum-known-item-2 : tie.Need-enum-known-item-2 Inv-loop μ-loop
 enum-known-item-2 c = search needs
 
--- src/onward.rt:111:61
 returns-4 : tie.Need-returns-4 Inv-loop μ-loop
 returns-4 c = at-action _ _ _ _ _ _ _ _ (c .before .before .before .before .before .before .before .before .before .loop .inv) (c .before .before .before .before .before .before .before .before .if1 .left) (c .before .before .before .before .before .before .before .if3 .left) (ap (λ (r : Reading). r .answer) (sym (c .before .before .before .before .before .before .read .ensures)) ∙ c .before .before .before .before .answer .given .1 ∙ ap Found (c .before .item2 .given .1))
 
--- src/onward.rt:113:52
 enum-told-2 : tie.Need-enum-told-2 Inv-loop μ-loop
 enum-told-2 c = search needs
 
--- src/onward.rt:113:45
 at-end-requires-3 : tie.Need-at-end-requires-3 Inv-loop μ-loop
 at-end-requires-3 c κs = search needs
 
--- src/onward.rt:113:45
 returns-5 : tie.Need-returns-5 Inv-loop μ-loop
 unfolding andOthers
 returns-5 c =
@@ -152,15 +116,12 @@ returns-5 c =
     (at-items-end _ _ _ _ _ (c .before .before .before .before .before .before .loop .inv) (c .before .before .before .before .before .if1 .left) (c .before .before .before .before .if3 .left)
     (λ others. ap (λ (a : ItemAnswer). andOthers a others) (ap (λ (r : Reading). r .answer) (sym (c .before .before .before .read .ensures)) ∙ c .before .enum-told2 .given .1)))
 
--- src/onward.rt:114:47
 enum-told-3 : tie.Need-enum-told-3 Inv-loop μ-loop
 enum-told-3 c = search needs
 
--- src/onward.rt:114:40
 at-end-requires-4 : tie.Need-at-end-requires-4 Inv-loop μ-loop
 at-end-requires-4 c κs = search needs
 
--- src/onward.rt:114:40
 returns-6 : tie.Need-returns-6 Inv-loop μ-loop
 unfolding andOthers
 returns-6 c =

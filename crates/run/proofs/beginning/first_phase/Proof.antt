@@ -1,14 +1,11 @@
+-- `beginning::first_phase` meets its contract. On each way to a return, the tests and calls on the way choose the case of the definition.
 use borrow.Author.Tests.{eq-eqb, ne-eqb}
 use Rattle.run.proofs.beginning.first_phase.Statement.{statement}
 use Rattle.run.proofs.beginning.first_phase.Tie as tie
-use Rattle.run.proofs.beginning.first_phase.Reads as reads
-use Rattle.run.proofs.beginning.first_phase.Lts as lts
 
--- src/beginning.rt:20:9
 returns : tie.Need-returns
 returns c = simp (eq-eqb _ _ (c .if1 .taken))
 
--- src/beginning.rt:16:1
 returns-2 : tie.Need-returns-2
 returns-2 c = simp (ne-eqb _ _ (c .if1 .left))
 

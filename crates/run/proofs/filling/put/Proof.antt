@@ -6,55 +6,44 @@ use Rattle.run.proofs.Behind.{told-length, put-back}
 use borrow.Author.Needs.{needs}
 use Rattle.run.proofs.filling.put.Statement.{statement}
 use Rattle.run.proofs.filling.put.Tie as tie
-use Rattle.run.proofs.filling.put.Reads as reads
-use Rattle.run.proofs.filling.put.Lts as lts
-use Rattle.lines.proofs.write_line.Reads as write-line-reads
 
--- src/filling.rt:24:9
 sub-write-line : tie.Need-sub-write-line
 sub-write-line c = search needs
 
--- src/filling.rt:24:9
 part-write-line-start : tie.Need-part-write-line-start
 part-write-line-start c = search needs
 
--- src/filling.rt:24:9
 part-write-line-end : tie.Need-part-write-line-end
 part-write-line-end c = search needs
 
--- src/filling.rt:23:9
 write-line-requires : tie.Need-write-line-requires
 write-line-requires c κs = search needs
 
--- src/filling.rt:31:30
 enum-told : tie.Need-enum-told
 enum-told c = search needs
 
--- src/filling.rt:32:25
 enum-known-written : tie.Need-enum-known-written
 enum-known-written c = search needs
 
--- src/filling.rt:18:1
 same-length : tie.Need-same-length
 same-length c = search needs
 
--- src/filling.rt:18:1
 returns : tie.Need-returns
 unfolding text writtenLength
-returns c =
-    (sym (ap writtenLength (c .enum-told .given .1)) ∙ told-length _ (c .before .before .before .before .before .before .before .args .buffer .now) (text (c .before .before .before .before .before .before .before .args .line)) (c .before .before .before .before .before .before .before .args .used) (c .before .before .before .before .write-line .ensures .0),
-    put-back (c .before .before .before .before .before .before .before .args .buffer .now) _ (text (c .before .before .before .before .before .before .before .args .line)) (c .before .before .before .before .before .before .before .args .used) (c .before .before .before .before .write-line .ensures .1))
+returns c = (
+  sym (ap writtenLength (c .enum-told .given .1)) ∙ told-length _ (c .before .before .before .before .before .before .before .args .buffer .now) (text (c .before .before .before .before .before .before .before .args .line)) (c .before .before .before .before .before .before .before .args .used) (c .before .before .before .before .write-line .ensures .0),
+  put-back (c .before .before .before .before .before .before .before .args .buffer .now) _ (text (c .before .before .before .before .before .before .before .args .line)) (c .before .before .before .before .before .before .before .args .used) (c .before .before .before .before .write-line .ensures .1),
+)
 
--- src/filling.rt:18:1
 same-length-2 : tie.Need-same-length-2
 same-length-2 c = search needs
 
--- src/filling.rt:18:1
 returns-2 : tie.Need-returns-2
 unfolding text writtenLength
-returns-2 c =
-    (sym (ap writtenLength (c .before .written .given .1)) ∙ told-length _ (c .before .before .before .before .before .before .before .before .args .buffer .now) (text (c .before .before .before .before .before .before .before .before .args .line)) (c .before .before .before .before .before .before .before .before .args .used) (c .before .before .before .before .before .write-line .ensures .0),
-    put-back (c .before .before .before .before .before .before .before .before .args .buffer .now) _ (text (c .before .before .before .before .before .before .before .before .args .line)) (c .before .before .before .before .before .before .before .before .args .used) (c .before .before .before .before .before .write-line .ensures .1))
+returns-2 c = (
+  sym (ap writtenLength (c .before .written .given .1)) ∙ told-length _ (c .before .before .before .before .before .before .before .before .args .buffer .now) (text (c .before .before .before .before .before .before .before .before .args .line)) (c .before .before .before .before .before .before .before .before .args .used) (c .before .before .before .before .before .write-line .ensures .0),
+  put-back (c .before .before .before .before .before .before .before .before .args .buffer .now) _ (text (c .before .before .before .before .before .before .before .before .args .line)) (c .before .before .before .before .before .before .before .before .args .used) (c .before .before .before .before .before .write-line .ensures .1),
+)
 
 pub put-spec : {M : Type 1} → statement M
 put-spec =

@@ -1,16 +1,12 @@
+-- `onward::is_event` meets its contract. On each way to a return, the tests and calls on the way choose the case of the definition.
 use Rattle.run.specs.Wording.{isEvent}
 use borrow.Author.Needs.{needs}
 use Rattle.run.proofs.onward.is_event.Statement.{statement}
 use Rattle.run.proofs.onward.is_event.Tie as tie
-use Rattle.run.proofs.onward.is_event.Reads as reads
-use Rattle.run.proofs.onward.is_event.Lts as lts
-use Rattle.usernode.proofs.event_letter.Reads as event-letter-reads
 
--- src/onward.rt:20:5
 event-letter-requires : tie.Need-event-letter-requires
 event-letter-requires c κs = search needs
 
--- src/onward.rt:17:1
 returns : tie.Need-returns
 unfolding isEvent
 returns c = simp (c .event-letter .ensures)

@@ -1,42 +1,33 @@
+-- `results::is_cut` meets its contract. On each way to a return, the tests and calls on the way choose the case of the definition.
 use Rattle.run.specs.Outcomes.{isCut}
 use borrow.Author.Needs.{needs}
 use Rattle.run.proofs.results.is_cut.Statement.{statement}
 use Rattle.run.proofs.results.is_cut.Tie as tie
-use Rattle.run.proofs.results.is_cut.Reads as reads
-use Rattle.run.proofs.results.is_cut.Lts as lts
 
--- src/results.rt:26:25
 enum-told : tie.Need-enum-told
 enum-told c = search needs
 
--- src/results.rt:27:25
 enum-told-2 : tie.Need-enum-told-2
 enum-told-2 c = search needs
 
--- src/results.rt:28:23
 enum-told-3 : tie.Need-enum-told-3
 enum-told-3 c = search needs
 
--- src/results.rt:29:30
 enum-told-4 : tie.Need-enum-told-4
 enum-told-4 c = search needs
 
--- src/results.rt:22:1
 returns : tie.Need-returns
 unfolding isCut
 returns c = simp (c .enum-told .given .1)
 
--- src/results.rt:22:1
 returns-2 : tie.Need-returns-2
 unfolding isCut
 returns-2 c = simp (c .enum-told2 .given .1)
 
--- src/results.rt:22:1
 returns-3 : tie.Need-returns-3
 unfolding isCut
 returns-3 c = simp (c .enum-told3 .given .1)
 
--- src/results.rt:22:1
 returns-4 : tie.Need-returns-4
 unfolding isCut
 returns-4 c = simp (c .enum-told4 .given .1)
