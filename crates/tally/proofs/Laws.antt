@@ -1,7 +1,8 @@
 -- One turn more of each loop of this crate, and the busy locks read off one word.
 use Prim.Native.Nat.{ℕ, zero, suc, _+_, _-_, _^_, min}
-use mathlib.Core.Path.{_≡_, refl, _∙_, sym, ap}
-use mathlib.Core.Bool.{Bool, cond, _||_}
+use mathlib.Core.Path.{_≡_, refl, _∙_, sym, ap, subst}
+use mathlib.Core.Bool.{Bool, false, cond, _||_}
+use lib.Dec.{T}
 use mathlib.Core.List.{List}
 use lib.Bits.{bitOr}
 use lib.ListN.{getD}
@@ -10,8 +11,11 @@ use Rattle.lists.proofs.Laws.{some-more, inOrder-more}
 use Rattle.words.specs.Words.{has}
 use Rattle.words.proofs.Sets.{has-or}
 use Rattle.usernode.specs.declared.Node.{Node}
+use Rattle.usernode.specs.declared.Event.{Event}
+use Rattle.usernode.specs.declared.Event.the-variants.{Nothing, Granted, Failed, Lost, Back, Sent}
 use Rattle.ring.specs.State.{restNode}
-use Rattle.tally.specs.Tally.{counted, busy, busyLock, busyCounts, addUp}
+use Rattle.tally.specs.Tally.{counted, busy, busyLock, busyCounts, isCounted, eventTally, addUp}
+use Rattle.tally.specs.declared.Tally.{Tally}
 
 -- one node more in the word of what is held
 pub busy-more : (nodes : List Node) (word i lock : ℕ) → has word lock ≡ busy nodes i lock
@@ -46,3 +50,13 @@ pub word-busy : (nodes : List Node) (count word : ℕ) → ((lock : ℕ) → has
 unfolding busyCounts busyLock
 word-busy nodes count word e =
     same-in-order (wordLock word) (busyLock nodes count) (λ lock counts. ap (λ (b : Bool). cond b (counted counts lock) counts) (e lock))
+
+-- an event that is not counted changes nothing
+pub not-counted : (event : Event) (tally : Tally) → isCounted event ≡ false → tally ≡ eventTally event tally
+unfolding isCounted eventTally
+not-counted Nothing tally e = refl
+not-counted (Granted lock) tally e = absurd (subst T e tt)
+not-counted (Failed lock) tally e = absurd (subst T e tt)
+not-counted (Lost lock) tally e = refl
+not-counted (Back lock) tally e = refl
+not-counted (Sent lock) tally e = refl

@@ -1,6 +1,6 @@
 -- 01, "The run and its lines": what a run counts for each lock: busy steps, grants and N events.
 use Prim.Native.Nat.{ℕ, _+_, _-_, _^_, min}
-use mathlib.Core.Bool.{Bool, cond}
+use mathlib.Core.Bool.{Bool, cond, true, false}
 use mathlib.Core.List.{List}
 use lib.Dec.{ltb, leb}
 use lib.ListN.{getD, set, replicate}
@@ -44,6 +44,15 @@ busyLock nodes count lock counts = cond (busy nodes count lock) (counted counts 
 
 unfoldable pub busyCounts : List Node → ℕ → ℕ → List ℕ → List ℕ
 busyCounts nodes count locks = inOrder (busyLock nodes count) locks
+
+-- whether an event is one that is counted: G and N
+unfoldable pub isCounted : Event → Bool
+isCounted Nothing = false
+isCounted (Granted lock) = true
+isCounted (Failed lock) = true
+isCounted (Lost lock) = false
+isCounted (Back lock) = false
+isCounted (Sent lock) = false
 
 -- one more grant for G, one more failure for N, of the event's lock
 unfoldable pub eventTally : Event → Tally → Tally

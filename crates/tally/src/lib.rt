@@ -2,7 +2,7 @@
 ghost use mathlib.Core.Path.{_≡_};
 ghost use Prim.Native.Nat.{ℕ, _+_, _-_, _^_, _≤_, _<_, min};
 ghost use Rattle.words.specs.Words.{has};
-ghost use Rattle.tally.specs.Tally.{emptyTally, more, counted, busy, busyCounts, eventTally, eventsTally, stepTally, sumOf};
+ghost use Rattle.tally.specs.Tally.{emptyTally, more, counted, busy, busyCounts, isCounted, eventTally, eventsTally, stepTally, sumOf};
 use plan::NODES;
 use ring::Happening;
 use usernode::Event;
@@ -101,6 +101,20 @@ fn busy_counts(
     next
 }
 
+// Whether an event is one that is counted.
+fn is_counted(event: Event) -> bool
+    ensures { λ r. ⌜ r ≡ isCounted event ⌝ }
+{
+    match event {
+        Event::Nothing => false,
+        Event::Granted(lock) => true,
+        Event::Failed(lock) => true,
+        Event::Lost(lock) => false,
+        Event::Back(lock) => false,
+        Event::Sent(lock) => false,
+    }
+}
+
 // One more grant or failure, by the event.
 fn event_tally(event: Event, tally: Tally) -> Tally
     ensures { λ r. ⌜ r ≡ eventTally event tally ⌝ }
@@ -136,8 +150,12 @@ fn events_tally(events: [Happening; NODES], count: usize, tally: Tally) -> Tally
     while i < count {
         let happening = events[i];
         let event = happening.event;
-        next = event_tally(event, next);
-        i += 1;
+        if is_counted(event) {
+            next = event_tally(event, next);
+            i += 1;
+        } else {
+            i += 1;
+        }
     }
     next
 }

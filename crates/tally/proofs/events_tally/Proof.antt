@@ -6,6 +6,7 @@ use borrow.Author.Needs.{needs}
 use Rattle.lists.proofs.Laws.{inOrder-none, inOrder-more}
 use Rattle.ring.specs.Walk.{quiet}
 use Rattle.tally.specs.Tally.{eventTally, placeTally, eventsTally}
+use Rattle.tally.proofs.Laws.{not-counted}
 use Rattle.tally.proofs.events_tally.Statement.{statement}
 use Rattle.tally.proofs.events_tally.Tie as tie
 
@@ -25,6 +26,9 @@ mul-happening c = search needs
 array-copy-out-happening : tie.Need-array-copy-out-happening Inv-loop μ-loop
 array-copy-out-happening c = search needs
 
+is-counted-requires : tie.Need-is-counted-requires Inv-loop μ-loop
+is-counted-requires c κs = search needs
+
 event-tally-requires : tie.Need-event-tally-requires Inv-loop μ-loop
 event-tally-requires c κs = search needs
 
@@ -36,7 +40,18 @@ loop-less c = search needs
 
 loop-again : tie.Need-loop-again Inv-loop μ-loop
 unfolding eventsTally placeTally quiet
-loop-again c = (search needs, c .event-tally .ensures ∙ ap (eventTally _) (c .before .before .before .loop .inv .1) ∙ sym (inOrder-more _ _ _))
+loop-again c = (search needs, c .event-tally .ensures ∙ ap (eventTally _) (c .before .before .before .before .before .loop .inv .1) ∙ sym (inOrder-more _ _ _))
+
+add-i-2 : tie.Need-add-i-2 Inv-loop μ-loop
+add-i-2 c = search needs
+
+loop-less-2 : tie.Need-loop-less-2 Inv-loop μ-loop
+loop-less-2 c = search needs
+
+loop-again-2 : tie.Need-loop-again-2 Inv-loop μ-loop
+unfolding eventsTally placeTally quiet
+loop-again-2 c =
+    (search needs, not-counted _ _ (sym (c .before .is-counted .ensures) ∙ c .if1 .left) ∙ ap (eventTally _) (c .before .before .before .before .loop .inv .1) ∙ sym (inOrder-more _ _ _))
 
 returns : tie.Need-returns Inv-loop μ-loop
 returns c =
@@ -52,8 +67,12 @@ events-tally-spec =
     loop-holds
     mul-happening
     array-copy-out-happening
+    is-counted-requires
     event-tally-requires
     add-i
     loop-less
     loop-again
+    add-i-2
+    loop-less-2
+    loop-again-2
     returns)
