@@ -1,34 +1,23 @@
-// Made-up states of the lock ring and how the model answers them, a line each: the numbers 4 and 7 to 15, their order, 01's
-// "Readings that look right", and the rules one by one. The output was held against 01 by hand, so a change of code and definition
-// together shows.
-mod acting;
-mod astray;
-mod four;
-mod look;
-mod make;
-mod missing;
-mod order;
-mod queue;
-mod readings;
-mod report;
-mod routes;
-mod rules;
+// Made-up states of the lock ring and how the model answers them. The states and the questions are a text on standard input, one
+// command a line (its first lines say how they are written); each line is written as it stands, with the answer behind it.
+mod asking;
+mod making;
+mod names;
+mod reading;
 mod say;
-mod thirteen;
-mod tours;
-mod unused;
+mod script;
+mod showing;
+mod terms;
 
+// Reads standard input to its end. A byte more, or no answer, where the end should be: the text is longer than the buffer, or a
+// read failed, and nothing is done.
 fn main() {
-    four::show();
-    thirteen::show();
-    missing::show();
-    unused::show();
-    queue::show();
-    astray::show();
-    order::show();
-    acting::show();
-    readings::show();
-    rules::show();
-    tours::show();
-    routes::show();
+    let mut buffer = io::large_buffer();
+    let mut rest = [0u8; 1];
+    let used = io::read_full(0, &mut buffer);
+    if libc::read(0, &mut rest) == 0 {
+        script::run(&buffer[..used]);
+    } else {
+        say::not_understood();
+    }
 }

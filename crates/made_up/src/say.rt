@@ -1,7 +1,11 @@
-// Writing to standard output, in the words of 01: texts, numbers, cars, nodes and junctions. `lead` is what stands before the thing
-// that is said; the others begin with a comma.
+// Writing to standard output: numbers, and things in the words and the order of the script, each behind a space.
+use crate::names;
 use cars::Car;
 use junction::Junction;
+use plan::NODES;
+use plan::POSITIONS;
+use plan::Plan;
+use ring::Happening;
 use usernode::Activity;
 use usernode::Event;
 use usernode::Node;
@@ -10,108 +14,137 @@ pub fn text(bytes: &[u8]) {
     io::write_all(1, bytes);
 }
 
-pub fn line_end() {
-    io::write_all(1, b"\n");
+pub fn byte(value: u8) {
+    let bytes = [value];
+    text(&bytes);
 }
 
-pub fn number(lead: &[u8], value: u8) {
-    io::write_all(1, lead);
-    io::print_decimal(1, value as u64);
+// The line is no command, or names a place that no state has.
+pub fn not_understood() {
+    text(b": ?");
 }
 
-// A set of locks, as the number that its word is.
-pub fn word(lead: &[u8], value: u64) {
-    io::write_all(1, lead);
+fn name(code: u64) {
+    let mut left = code;
+    let mut i: usize = 0;
+    byte(b' ');
+    while i < 8 {
+        let letter = ((left >> 56) % 256) as u8;
+        if letter != 0 {
+            byte(letter);
+        }
+        left = left << 8;
+        i += 1;
+    }
+}
+
+fn number(value: u64) {
+    byte(b' ');
     io::print_decimal(1, value);
 }
 
-pub fn flag(lead: &[u8], set: bool) {
-    io::write_all(1, lead);
-    if set {
-        text(b"set");
-    } else {
-        text(b"clear");
-    }
+fn small(value: u8) {
+    number(value as u64);
 }
 
-// A car that carries a lock and a source node.
-fn carrying(kind: &[u8], lock: u8, source: u8) {
-    number(kind, lock);
-    number(b" source ", source);
+// An answer's number in 01.
+pub fn answer(value: u8) {
+    byte(b':');
+    small(value);
 }
 
-pub fn plain_car(car: Car) {
+fn carrying(code: u64, lock: u8, source: u8) {
+    name(code);
+    small(lock);
+    small(source);
+}
+
+pub fn car(car: Car) {
     match car {
-        Car::Idle => text(b"idle"),
-        Car::Token => text(b"token"),
-        Car::Null => text(b"null"),
-        Car::Reqp(tag) => carrying(b"reqp lock ", tag.lock, tag.source),
-        Car::Failp(tag) => carrying(b"failp lock ", tag.lock, tag.source),
-        Car::Dov(tag) => carrying(b"dov lock ", tag.lock, tag.source),
-        Car::Gotp(notice) => carrying(b"gotp lock ", notice.lock, notice.source),
-        Car::Didv(notice) => carrying(b"didv lock ", notice.lock, notice.source),
+        Car::Idle => name(names::IDLE),
+        Car::Token => name(names::TOKEN),
+        Car::Null => name(names::NULL),
+        Car::Reqp(tag) => carrying(names::REQP, tag.lock, tag.source),
+        Car::Failp(tag) => carrying(names::FAILP, tag.lock, tag.source),
+        Car::Dov(tag) => carrying(names::DOV, tag.lock, tag.source),
+        Car::Gotp(notice) => carrying(names::GOTP, notice.lock, notice.source),
+        Car::Didv(notice) => carrying(names::DIDV, notice.lock, notice.source),
     }
 }
 
-pub fn the_car(lead: &[u8], car: Car) {
-    text(lead);
-    plain_car(car);
+fn locked(code: u64, lock: u8) {
+    name(code);
+    small(lock);
 }
 
-pub fn the_activity(activity: Activity) {
+fn activity(activity: Activity) {
     match activity {
-        Activity::Idle => text(b", activity idle"),
-        Activity::ToSendReqp(lock) => number(b", activity to send a reqp lock ", lock),
-        Activity::WaitingReqp(lock) => number(b", activity waiting for a reqp lock ", lock),
-        Activity::ToSendDov(lock) => number(b", activity to send a dov lock ", lock),
-        Activity::WaitingDov(lock) => number(b", activity waiting for a dov lock ", lock),
+        Activity::Idle => name(names::IDLE),
+        Activity::ToSendReqp(lock) => locked(names::SENDREQP, lock),
+        Activity::WaitingReqp(lock) => locked(names::WAITREQP, lock),
+        Activity::ToSendDov(lock) => locked(names::SENDDOV, lock),
+        Activity::WaitingDov(lock) => locked(names::WAITDOV, lock),
     }
 }
 
-// The event's letter and lock.
-pub fn the_event(event: Event) {
-    let letter = usernode::event_letter(event);
-    if letter == 0 {
-        text(b", no event");
-    } else {
-        let letters = [letter];
-        text(b", event ");
-        text(&letters);
-        number(b" lock ", usernode::event_lock(event));
-    }
+// The zero node but for its queue.
+pub fn zero_node(sent: Car, count: u8) {
+    car(sent);
+    small(count);
 }
 
-// What an action can change of a node.
-pub fn activity_and_words(node: Node) {
+pub fn node(node: Node) {
+    let sent = node.car;
     let doing = node.activity;
-    the_activity(doing);
-    word(b", held word ", node.held);
-    word(b", letting-go word ", node.letting);
+    car(sent);
+    small(node.flag as u8);
+    activity(doing);
+    number(node.held);
+    number(node.letting);
 }
 
-// All of a node but the car it sends.
-pub fn node_without_car(node: Node) {
-    flag(b", flag ", node.flag);
-    activity_and_words(node);
-}
-
-pub fn the_node(lead: &[u8], node: Node) {
-    let car = node.car;
-    the_car(lead, car);
-    node_without_car(node);
-}
-
-// All of a junction but the cars it sends.
-pub fn junction_without_cars(junction: Junction) {
-    flag(b", train flag ", junction.train);
-    flag(b", tour flag ", junction.tour);
-    word(b", word ", junction.word);
-}
-
-pub fn the_junction(junction: Junction) {
+pub fn junction(junction: Junction) {
     let main = junction.main;
     let subring = junction.subring;
-    the_car(b", main car ", main);
-    the_car(b", subring car ", subring);
-    junction_without_cars(junction);
+    car(main);
+    car(subring);
+    small(junction.train as u8);
+    small(junction.tour as u8);
+    number(junction.word);
+}
+
+// All values, in use or not.
+pub fn plan(plan: Plan) {
+    let mut i = 0;
+    small(plan.rules);
+    small(plan.locks);
+    small(plan.positions);
+    while i < POSITIONS {
+        small(plan.values[i]);
+        i += 1;
+    }
+}
+
+// A node's event, if it has one: node, letter, lock.
+fn event(node: u8, event: Event) {
+    let letter = usernode::event_letter(event);
+    if letter != 0 {
+        byte(b',');
+        small(node);
+        byte(b' ');
+        byte(letter);
+        small(usernode::event_lock(event));
+    }
+}
+
+// A step's number in 01, and its events, nodes ascending.
+pub fn step(value: u8, events: [Happening; NODES]) {
+    let mut i: u8 = 0;
+    answer(value);
+    while i < 64 {
+        let happening = events[i as usize];
+        let what = happening.event;
+        event(i + 1, what);
+        i += 1;
+    }
 }
