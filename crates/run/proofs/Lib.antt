@@ -7,3 +7,4 @@ pub mod Behind
 pub mod Fills
 pub mod Buffers
 pub mod Sum
+pub mod Callers
