@@ -1,0 +1,442 @@
+/* The night program in plain C, the yardstick for speed. It reads a night
+   file on standard input and writes the run's lines on standard output. Rules
+   and names are those of the build paper (01). Refusals 13 to 15 are not
+   tested: from the start state they never occur. */
+
+#include <stdbool.h>
+#include <stdint.h>
+#include <stdio.h>
+
+enum {
+    CEILING = 1000000,
+    FILE_LEAST = 11,
+    FILE_MOST = 65535,
+    LOCKS_MOST = 64,
+    POSITIONS_MOST = 16,
+    NODES_MOST = 64,
+    QUEUE_MOST = 65,
+    LINE_MOST = 40 /* three numbers of at most 10 digits, a letter, spaces, newline */
+};
+
+enum { RING = 1, MULTIRING = 2 };
+enum { STEPS, TAKE, RELEASE, FORCE };
+enum { IDLE, TOKEN, NULL_CAR, REQP, FAILP, DOV, GOTP, DIDV };
+enum { NO_ACTIVITY, SEND_REQP, SEND_DOV, WAIT_REQP, WAIT_DOV };
+
+struct car {
+    int kind, lock, source;
+};
+
+struct node {
+    struct car car;
+    bool in_train;
+    int activity, activity_lock;
+    uint64_t held, letting_go;
+};
+
+struct junction {
+    struct car main_car, sub_car;
+    bool train, tour;
+    uint64_t word;
+};
+
+/* A queue in a circle: its first car is at place head. */
+struct zero_node {
+    struct car car;
+    struct car queue[QUEUE_MOST];
+    int head, count;
+};
+
+struct plan {
+    int rules, locks, positions, users;
+    int value[POSITIONS_MOST];
+};
+
+struct run {
+    struct plan plan;
+    struct zero_node zero;
+    struct node nodes[NODES_MOST + 1]; /* numbered from 1 */
+    struct junction junctions[POSITIONS_MOST]; /* by position */
+    int steps, grants, fails;
+    int busy[LOCKS_MOST];
+};
+
+static const struct car idle_car = {IDLE, 0, 0};
+static const struct car token_car = {TOKEN, 0, 0};
+static const struct car null_car = {NULL_CAR, 0, 0};
+
+/* Lines */
+
+static char out[1 << 16];
+static size_t out_length;
+
+static void flush(void)
+{
+    fwrite(out, 1, out_length, stdout);
+    out_length = 0;
+}
+
+static void put_number(int number)
+{
+    char digits[10];
+    int count = 0;
+    do {
+        digits[count++] = (char)('0' + number % 10);
+        number /= 10;
+    } while (number != 0);
+    while (count > 0)
+        out[out_length++] = digits[--count];
+}
+
+static void line(int steps, char letter, int first, int second)
+{
+    if (out_length > sizeof out - LINE_MOST)
+        flush();
+    put_number(steps);
+    out[out_length++] = ' ';
+    out[out_length++] = letter;
+    out[out_length++] = ' ';
+    put_number(first);
+    out[out_length++] = ' ';
+    put_number(second);
+    out[out_length++] = '\n';
+}
+
+/* Sets of locks */
+
+static uint64_t bit(int lock)
+{
+    return (uint64_t)1 << lock;
+}
+
+/* The lowest lock of a set that is not empty (a GCC and Clang builtin). */
+static int lowest(uint64_t set)
+{
+    return __builtin_ctzll(set);
+}
+
+/* One step. Each turn takes the car that arrives and answers the car sent
+   before the step, which arrives at the next sender. So the state is changed
+   in place, in travelling order. */
+
+static struct car carrying(int kind, int lock, int source)
+{
+    struct car car = {kind, lock, source};
+    return car;
+}
+
+/* Rules 1 to 3. */
+static struct car join_train(struct run *run, struct node *node, int number)
+{
+    if (node->activity == SEND_REQP) {
+        node->activity = WAIT_REQP;
+        return carrying(REQP, node->activity_lock, number);
+    }
+    if (node->activity == SEND_DOV) {
+        node->activity = WAIT_DOV;
+        return carrying(DOV, node->activity_lock, number);
+    }
+    if (node->letting_go != 0) {
+        int lock = lowest(node->letting_go);
+        node->letting_go &= ~bit(lock);
+        line(run->steps, 'D', number, lock);
+        return carrying(DIDV, lock, number);
+    }
+    return idle_car;
+}
+
+/* Rules 4, 5 and 7: an own car returns. */
+static struct car own_returns(struct run *run, struct node *node, int number, struct car car)
+{
+    node->activity = NO_ACTIVITY;
+    if (car.kind == REQP) {
+        node->held |= bit(car.lock);
+        run->grants++;
+        line(run->steps, 'G', number, car.lock);
+        if (run->plan.rules == MULTIRING)
+            return carrying(GOTP, car.lock, number);
+    } else if (car.kind == FAILP) {
+        run->fails++;
+        line(run->steps, 'N', number, car.lock);
+    } else {
+        line(run->steps, 'B', number, car.lock);
+    }
+    return null_car;
+}
+
+/* Rules 6 and 8: another's car. */
+static struct car pass_on(struct run *run, struct node *node, int number, struct car car)
+{
+    if (car.kind == REQP && node->in_train && ((node->held | node->letting_go) & bit(car.lock))) {
+        car.kind = FAILP;
+    } else if (car.kind == DOV && (node->held & bit(car.lock))) {
+        node->held &= ~bit(car.lock);
+        if (run->plan.rules == MULTIRING)
+            node->letting_go |= bit(car.lock);
+        line(run->steps, 'L', number, car.lock);
+    }
+    return car;
+}
+
+static inline struct car user_turn(struct run *run, int number, struct car car)
+{
+    struct node *node = &run->nodes[number];
+    struct car before = node->car;
+    if (car.kind == IDLE) {
+        if (node->in_train)
+            car = join_train(run, node, number);
+    } else if (car.kind == REQP || car.kind == FAILP || car.kind == DOV) {
+        if (car.source == number)
+            car = own_returns(run, node, number, car);
+        else
+            car = pass_on(run, node, number, car);
+    }
+    if (car.kind == TOKEN)
+        node->in_train = true;
+    else if (car.kind == IDLE)
+        node->in_train = false;
+    node->car = car;
+    return before;
+}
+
+static bool wants_train(const struct run *run, int first, int size)
+{
+    for (int number = first; number < first + size; number++)
+        if (run->nodes[number].activity != NO_ACTIVITY || run->nodes[number].letting_go != 0)
+            return true;
+    return false;
+}
+
+static void outside_tour(struct junction *junction, struct car car, bool wanted)
+{
+    if (car.kind == TOKEN && wanted) {
+        junction->tour = true;
+        junction->sub_car = token_car;
+        junction->main_car = idle_car;
+        return;
+    }
+    junction->sub_car = car.kind == TOKEN ? idle_car : car;
+    if (car.kind == REQP && (junction->word & bit(car.lock)))
+        car.kind = FAILP;
+    junction->main_car = car;
+}
+
+static void in_tour(struct junction *junction, struct car car, struct car from_sub, bool own)
+{
+    junction->sub_car = car;
+    if (from_sub.kind == TOKEN)
+        junction->train = true;
+    if (!junction->train) {
+        junction->main_car = idle_car;
+        return;
+    }
+    junction->main_car = from_sub;
+    if (from_sub.kind == IDLE)
+        junction->train = junction->tour = false;
+    else if (from_sub.kind == GOTP && own)
+        junction->word |= bit(from_sub.lock);
+    else if (from_sub.kind == DIDV && own)
+        junction->word &= ~bit(from_sub.lock);
+}
+
+static struct car junction_turn(struct run *run, int position, int first, struct car car)
+{
+    struct junction *junction = &run->junctions[position];
+    int size = run->plan.value[position];
+    struct car main_before = junction->main_car;
+    struct car sub_before = junction->sub_car;
+    struct car from_sub = run->nodes[first + size - 1].car;
+    if (junction->tour)
+        in_tour(junction, car, from_sub, from_sub.source >= first && from_sub.source < first + size);
+    else
+        outside_tour(junction, car, car.kind == TOKEN && wants_train(run, first, size));
+    for (int number = first; number < first + size; number++)
+        sub_before = user_turn(run, number, sub_before);
+    return main_before;
+}
+
+static void zero_turn(struct zero_node *zero, struct car car)
+{
+    zero->car = idle_car;
+    if (zero->count > 0 && (zero->queue[zero->head].kind != TOKEN || car.kind == IDLE)) {
+        zero->car = zero->queue[zero->head];
+        zero->head = (zero->head + 1) % QUEUE_MOST;
+        zero->count--;
+    }
+    if (car.kind != IDLE && car.kind != NULL_CAR && car.kind != GOTP && car.kind != DIDV) {
+        zero->queue[(zero->head + zero->count) % QUEUE_MOST] = car;
+        zero->count++;
+    }
+}
+
+/* The locks that some node holds. */
+static uint64_t all_held(const struct run *run)
+{
+    uint64_t held = 0;
+    for (int number = 1; number <= run->plan.users; number++)
+        held |= run->nodes[number].held;
+    return held;
+}
+
+static void step(struct run *run)
+{
+    struct car car = run->zero.car;
+    int number = 1;
+    run->steps++;
+    for (int position = 0; position < run->plan.positions; position++) {
+        if (run->plan.value[position] == 0) {
+            car = user_turn(run, number, car);
+            number++;
+        } else {
+            car = junction_turn(run, position, number, car);
+            number += run->plan.value[position];
+        }
+    }
+    zero_turn(&run->zero, car);
+    for (uint64_t held = all_held(run); held != 0; held &= held - 1)
+        run->busy[lowest(held)]++;
+}
+
+/* Actions */
+
+/* The refusal's number, or 0 where the action is accepted. */
+static int refusal(const struct run *run, int action, int number, int lock)
+{
+    if (number < 1 || number > run->plan.users)
+        return 7;
+    if (lock >= run->plan.locks)
+        return 8;
+    const struct node *node = &run->nodes[number];
+    bool holds = node->held & bit(lock);
+    if (node->activity != NO_ACTIVITY)
+        return 9;
+    if (action == RELEASE)
+        return holds ? 0 : 12;
+    if (holds)
+        return 10;
+    return node->letting_go & bit(lock) ? 11 : 0;
+}
+
+static void act(struct run *run, int action, int number, int lock)
+{
+    struct node *node = &run->nodes[number];
+    if (action == RELEASE) {
+        node->held &= ~bit(lock);
+        if (run->plan.rules == MULTIRING)
+            node->letting_go |= bit(lock);
+    } else {
+        node->activity = action == TAKE ? SEND_REQP : SEND_DOV;
+        node->activity_lock = lock;
+    }
+    line(run->steps, " TRF"[action], number, lock);
+}
+
+/* The night file */
+
+static int pair(const uint8_t *bytes)
+{
+    return bytes[0] + 256 * bytes[1];
+}
+
+static bool contents_right(const uint8_t *file, int length)
+{
+    int plan_length = pair(file + 4), schedule_length = pair(file + 9);
+    return file[0] == 2 && file[1] == 1 && pair(file + 2) == FILE_LEAST
+        && file[6] == 2 && pair(file + 7) == FILE_LEAST + plan_length
+        && FILE_LEAST + plan_length + schedule_length == length;
+}
+
+/* Reads the plan; false where a value is outside its range. */
+static bool read_plan(struct plan *plan, const uint8_t *body)
+{
+    plan->rules = body[0];
+    plan->locks = body[1];
+    plan->positions = body[2];
+    plan->users = 0;
+    if (plan->rules != RING && plan->rules != MULTIRING)
+        return false;
+    if (plan->locks < 1 || plan->locks > LOCKS_MOST)
+        return false;
+    if (plan->positions < 1 || plan->positions > POSITIONS_MOST)
+        return false;
+    for (int position = 0; position < plan->positions; position++) {
+        int value = body[3 + position];
+        if (value > (plan->rules == RING ? 0 : 4))
+            return false;
+        plan->value[position] = value;
+        plan->users += value == 0 ? 1 : value;
+    }
+    return true;
+}
+
+/* The refusal's number, or 0 with the plan read. */
+static int read_file(struct plan *plan, const uint8_t *file, int length)
+{
+    if (length < FILE_LEAST || length > FILE_MOST)
+        return 1;
+    if (!contents_right(file, length))
+        return 2;
+    const uint8_t *body = file + FILE_LEAST;
+    int plan_length = pair(file + 4), schedule_length = pair(file + 9);
+    if (plan_length < 3 || plan_length != 3 + body[2])
+        return 3;
+    if (!read_plan(plan, body))
+        return 4;
+    if (schedule_length % 3 != 0)
+        return 5;
+    for (int place = 0; place < schedule_length; place += 3)
+        if (body[plan_length + place] > FORCE)
+            return 6;
+    return 0;
+}
+
+/* The run. All of the start state is zero, but for the token. */
+
+static bool do_steps(struct run *run, int count)
+{
+    for (; count > 0; count--) {
+        if (run->steps == CEILING)
+            return false;
+        step(run);
+    }
+    return true;
+}
+
+/* False where the ceiling stopped the run. */
+static bool do_items(struct run *run, const uint8_t *schedule, int count)
+{
+    for (int place = 0; place < count; place++) {
+        const uint8_t *item = schedule + 3 * place;
+        if (item[0] == STEPS) {
+            if (!do_steps(run, pair(item + 1)))
+                return false;
+        } else {
+            int number = refusal(run, item[0], item[1], item[2]);
+            if (number == 0)
+                act(run, item[0], item[1], item[2]);
+            else
+                line(run->steps, 'X', number, place);
+        }
+    }
+    return true;
+}
+
+int main(void)
+{
+    static uint8_t file[FILE_MOST + 1];
+    static struct run run;
+    int length = (int)fread(file, 1, sizeof file, stdin);
+    int refused = read_file(&run.plan, file, length);
+    if (refused != 0) {
+        line(0, 'Q', refused, 0);
+    } else {
+        run.zero.car = token_car;
+        const uint8_t *schedule = file + FILE_LEAST + pair(file + 4);
+        bool all = do_items(&run, schedule, pair(file + 9) / 3);
+        for (int lock = 0; lock < run.plan.locks; lock++)
+            line(run.steps, 'H', lock, run.busy[lock]);
+        line(run.steps, all ? 'E' : 'C', run.grants, run.fails);
+    }
+    flush();
+    return fflush(stdout) != 0 || ferror(stdout) != 0;
+}
