@@ -44,7 +44,7 @@ pub fn act(state: State, code: u64, line: &[u8], at: usize) -> State {
         let acted = acting(state, code, deed.node, deed.lock);
         let answer = acted.answer;
         let next = acted.state;
-        say::answer(usernode::answer_number(answer));
+        say::answer(acts::answer_number(answer));
         return next;
     }
     state

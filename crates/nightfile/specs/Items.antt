@@ -5,8 +5,8 @@ use mathlib.Core.Bool.{cond}
 use mathlib.Core.List.{List}
 use lib.Dec.{eqb, ltb, leb}
 use lib.ListN.{length}
-use Rattle.usernode.specs.declared.Action.{Action}
-use Rattle.usernode.specs.declared.Action.the-variants.{Take, Release, Force}
+use Rattle.acts.specs.declared.Action.{Action}
+use Rattle.acts.specs.declared.Action.the-variants.{Take, Release, Force}
 use Rattle.nightfile.specs.declared.Item.{Item}
 use Rattle.nightfile.specs.declared.Item.the-variants.{Steps, Act}
 use Rattle.nightfile.specs.declared.ItemAnswer.{ItemAnswer}

@@ -7,7 +7,7 @@ use crate::Cursor;
 use crate::Item;
 use crate::ItemAnswer;
 use crate::Reading;
-use usernode::Action;
+use acts::Action;
 
 // The action of an item's first byte: 1 take, 2 release, 3 force.
 fn action_of(kind: u8) -> Action

@@ -3,7 +3,7 @@ ghost use mathlib.Core.Path.{_≡_};
 ghost use Rattle.nightfile.specs.File.{fileNumber, fileAnswerNumber, planPart, schedulePart, planOf};
 ghost use Rattle.nightfile.specs.Items.{itemAnswerNumber, readAt};
 use plan::Plan;
-use usernode::Action;
+use acts::Action;
 
 mod bodies;
 mod contents;

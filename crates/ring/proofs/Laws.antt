@@ -12,7 +12,7 @@ use Rattle.cars.specs.Cars.{isNode}
 use Rattle.plan.specs.declared.Plan.{Plan}
 use Rattle.plan.specs.Plan.{inRange, nodeCount, junctionCount}
 use Rattle.plan.proofs.Laws.{nodes-count-most, junctions-count-most}
-use Rattle.usernode.specs.declared.Action.{Action}
+use Rattle.acts.specs.declared.Action.{Action}
 use Rattle.zeronode.specs.Sound.{zeroSound}
 use Rattle.ring.specs.declared.State.{State}
 use Rattle.ring.specs.Sound.{zeroPasses, nodePasses, junctionPasses, sound}

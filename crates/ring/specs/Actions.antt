@@ -6,8 +6,8 @@ use lib.ListN.{set}
 use Rattle.lists.specs.Refusal.{refusedIf}
 use Rattle.cars.specs.Cars.{isNode}
 use Rattle.plan.specs.Plan.{nodeCount}
-use Rattle.usernode.specs.declared.Action.{Action}
-use Rattle.usernode.specs.Actions.{actionAnswerNumber, nodeNumber, acted}
+use Rattle.acts.specs.declared.Action.{Action}
+use Rattle.acts.specs.Actions.{actionAnswerNumber, nodeNumber, acted}
 use Rattle.ring.specs.declared.State.{State}
 use Rattle.ring.specs.declared.Acted.{Acted}
 use Rattle.ring.specs.State.{Told, nodeOf}

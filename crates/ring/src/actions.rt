@@ -2,19 +2,19 @@
 ghost use mathlib.Core.Path.{_≡_};
 ghost use Prim.Native.Nat.{_≤_};
 ghost use lib.Dec.{eqb};
-ghost use Rattle.usernode.specs.declared.Action.the-variants.{Take, Release, Force};
-ghost use Rattle.usernode.specs.Actions.{actionAnswerNumber};
+ghost use Rattle.acts.specs.declared.Action.the-variants.{Take, Release, Force};
+ghost use Rattle.acts.specs.Actions.{actionAnswerNumber};
 ghost use Rattle.ring.specs.Actions.{actionNumber, actedState, actionTold, actingSound, acting};
 use crate::Acted;
 use crate::State;
-use usernode::Action;
-use usernode::ActionAnswer;
+use acts::Action;
+use acts::ActionAnswer;
 
 // Whether an action was accepted.
 fn accepts(answer: ActionAnswer) -> bool
     ensures { λ r. ⌜ r ≡ eqb (actionAnswerNumber answer) 0 ⌝ }
 {
-    usernode::answer_number(answer) == 0
+    acts::answer_number(answer) == 0
 }
 
 impl State {
@@ -27,7 +27,7 @@ impl State {
             if lock < plan.locks {
                 let place = (node - 1) as usize;
                 let acting = self.nodes[place];
-                return acting.answer(action, lock);
+                return acts::answer(acting, action, lock);
             }
             return ActionAnswer::NoSuchLock;
         }
@@ -43,7 +43,7 @@ impl State {
         let rules = self.plan.rules;
         let acting = self.nodes[place];
         let mut next = self;
-        next.nodes[place] = acting.acted(rules, action, lock);
+        next.nodes[place] = acts::acted(acting, rules, action, lock);
         next
     }
 

@@ -7,7 +7,7 @@ use junction::Junction;
 use plan::JUNCTIONS;
 use plan::NODES;
 use plan::Plan;
-use usernode::ActionAnswer;
+use acts::ActionAnswer;
 use usernode::Event;
 use usernode::Node;
 use zeronode::ZeroNode;

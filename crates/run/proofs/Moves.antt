@@ -10,7 +10,7 @@ use Rattle.plan.specs.declared.Plan.{Plan}
 use Rattle.plan.specs.Plan.{inRange, nodeCount}
 use Rattle.plan.proofs.Laws.{nodes-count-most}
 use Rattle.zeronode.specs.Rules.{queuePlaces}
-use Rattle.usernode.specs.declared.Action.{Action}
+use Rattle.acts.specs.declared.Action.{Action}
 use Rattle.nightfile.specs.declared.Item.{Item}
 use Rattle.nightfile.specs.declared.Item.the-variants.{Steps, Act}
 use Rattle.nightfile.specs.declared.ItemAnswer.the-variants.{Found}

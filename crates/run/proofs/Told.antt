@@ -2,8 +2,8 @@
 use Prim.Native.Nat.{ℕ}
 use mathlib.Core.Path.{_≡_, ap}
 use Rattle.plan.specs.declared.Plan.{Plan}
-use Rattle.usernode.specs.declared.Action.{Action}
-use Rattle.usernode.specs.Actions.{actionAnswerNumber}
+use Rattle.acts.specs.declared.Action.{Action}
+use Rattle.acts.specs.Actions.{actionAnswerNumber}
 use Rattle.ring.specs.declared.State.{State}
 use Rattle.ring.specs.declared.Started.{Started}
 use Rattle.ring.specs.declared.Stepped.{Stepped}

@@ -6,7 +6,7 @@ use mathlib.Core.List.{List, []}
 use native.Mathlib.Omega.{arith}
 use lib.ListN.{length}
 use borrow.Author.Tests.{lt-ltb, le-ltb, eq-eqb}
-use Rattle.usernode.specs.declared.Action.{Action}
+use Rattle.acts.specs.declared.Action.{Action}
 use Rattle.nightfile.specs.declared.Item.{Item}
 use Rattle.nightfile.specs.declared.Item.the-variants.{Steps, Act}
 use Rattle.nightfile.specs.declared.ItemAnswer.the-variants.{Found}

@@ -5,7 +5,7 @@ use mathlib.Core.List.{List}
 use lib.Dec.{eqb}
 use lib.ListN.{replicate}
 use Rattle.plan.specs.Plan.{nodePlaces, nodeCount}
-use Rattle.usernode.specs.declared.Action.{Action}
+use Rattle.acts.specs.declared.Action.{Action}
 use Rattle.ring.specs.State.{startState}
 use Rattle.ring.specs.Actions.{actingSound}
 use Rattle.ring.specs.Walk.{quiet}

@@ -4,8 +4,8 @@ use mathlib.Core.Bool.{Bool, cond, not}
 use mathlib.Core.List.{List}
 use lib.Dec.{eqb}
 use lib.ListN.{getD}
-use Rattle.usernode.specs.declared.Action.{Action}
-use Rattle.usernode.specs.declared.Action.the-variants.{Take, Release, Force}
+use Rattle.acts.specs.declared.Action.{Action}
+use Rattle.acts.specs.declared.Action.the-variants.{Take, Release, Force}
 use Rattle.usernode.specs.declared.Event.{Event}
 use Rattle.usernode.specs.Turn.{eventLetter, eventLock}
 use Rattle.ring.specs.Actions.{actingSound}

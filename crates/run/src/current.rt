@@ -17,7 +17,7 @@ use nightfile::Cursor;
 use nightfile::Item;
 use nightfile::ItemAnswer;
 use tally::LOCKS;
-use usernode::Action;
+use acts::Action;
 use usernode::Event;
 
 // The letter of an accepted action.
@@ -130,7 +130,7 @@ impl Run {
         let state = self.reached.state;
         let acted = state.act_sound(action, node, lock);
         let answer = acted.answer;
-        let line = self.action_line(action, node, lock, usernode::answer_number(answer));
+        let line = self.action_line(action, node, lock, acts::answer_number(answer));
         let next = acted.state;
         let tally = self.reached.tally;
         let reached = Reached {

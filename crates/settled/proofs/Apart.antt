@@ -5,9 +5,9 @@ use mathlib.Core.List.{[], _∷_}
 use mathlib.Core.Bool.{cond}
 use lib.Dec.{eqb}
 use lib.ListN.{getD}
-use Rattle.usernode.specs.declared.ActionAnswer.{ActionAnswer}
-use Rattle.usernode.specs.declared.ActionAnswer.the-variants.{Accepted, NoSuchNode, NoSuchLock, NotIdle, Holds, LettingGo, DoesNotHold, BadState}
-use Rattle.usernode.specs.Actions.{actionAnswerNumber}
+use Rattle.acts.specs.declared.ActionAnswer.{ActionAnswer}
+use Rattle.acts.specs.declared.ActionAnswer.the-variants.{Accepted, NoSuchNode, NoSuchLock, NotIdle, Holds, LettingGo, DoesNotHold, BadState}
+use Rattle.acts.specs.Actions.{actionAnswerNumber}
 use Rattle.ring.specs.declared.PlanAnswer.{PlanAnswer}
 use Rattle.ring.specs.declared.PlanAnswer.the-variants.{InRange, OutOfRange}
 use Rattle.ring.specs.declared.StepAnswer.{StepAnswer}

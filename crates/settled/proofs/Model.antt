@@ -7,8 +7,8 @@ use Rattle.plan.specs.declared.Plan.{Plan}
 use Rattle.usernode.specs.declared.Activity.{Activity}
 use Rattle.usernode.specs.declared.Event.{Event}
 use Rattle.usernode.specs.declared.Node.{Node}
-use Rattle.usernode.specs.declared.Action.{Action}
-use Rattle.usernode.specs.declared.ActionAnswer.{ActionAnswer}
+use Rattle.acts.specs.declared.Action.{Action}
+use Rattle.acts.specs.declared.ActionAnswer.{ActionAnswer}
 use Rattle.zeronode.specs.declared.ZeroNode.{ZeroNode}
 use Rattle.junction.specs.declared.Junction.{Junction}
 use Rattle.ring.specs.declared.State.{State}
@@ -17,12 +17,12 @@ use Rattle.ring.specs.declared.StepAnswer.{StepAnswer}
 use Rattle.words.specs.Words.{has, withLock, withoutLock, least, allBelow}
 use Rattle.cars.specs.Cars.{multiring, isNode, carNames}
 use Rattle.plan.specs.Plan.{inRange, nodeCount, junctionCount}
-use Rattle.usernode.specs.Actions.{actionAnswerNumber, acted, nodeNumber}
+use Rattle.acts.specs.Actions.{actionAnswerNumber, acted, nodeNumber}
 use Rattle.usernode.specs.Astray.{astray}
 use Rattle.usernode.specs.Node.{isIdle, had, wantsTrain}
 use Rattle.usernode.specs.Rules.{rule}
 use Rattle.usernode.specs.Sound.{nodeSound}
-use Rattle.usernode.specs.Turn.{eventLetter, eventLock, turn}
+use Rattle.usernode.specs.Turn.{letGo, eventLetter, eventLock, turn}
 use Rattle.zeronode.specs.Rules.{keeps, zeroRule}
 use Rattle.zeronode.specs.Sound.{zeroSound}
 use Rattle.zeronode.specs.Turn.{zeroTurn, overflows}
@@ -81,6 +81,9 @@ event-letter-settled event = settled (eventLetter event)
 
 pub event-lock-settled : (event : Event) → Settled (λ r. r ≡ eventLock event)
 event-lock-settled event = settled (eventLock event)
+
+pub let-go-settled : (rules letting lock : ℕ) → Settled (λ r. r ≡ letGo rules letting lock)
+let-go-settled rules letting lock = settled (letGo rules letting lock)
 
 pub is-idle-settled : (activity : Activity) → Settled (λ r. r ≡ isIdle activity)
 is-idle-settled activity = settled (isIdle activity)

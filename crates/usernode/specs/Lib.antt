@@ -3,4 +3,3 @@ pub mod Rules
 pub mod Turn
 pub mod Astray
 pub mod Sound
-pub mod Actions

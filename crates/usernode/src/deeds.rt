@@ -1,6 +1,6 @@
 // What a rule does: the car that the node sends, its flag, activity and words afterwards, and the event.
 ghost use mathlib.Core.Path.{_≡_};
-ghost use Rattle.usernode.specs.Turn.{flagAfter, becomes, grantCar, letGo, apply, eventOf, turn};
+ghost use Rattle.usernode.specs.Turn.{flagAfter, becomes, grantCar, apply, eventOf, turn};
 use crate::Activity;
 use crate::Event;
 use crate::Node;
@@ -37,16 +37,6 @@ fn grant_car(rules: u8, me: u8, lock: u8) -> Car
         });
     }
     Car::Null
-}
-
-// The letting-go word where a held lock is given up.
-pub fn let_go(rules: u8, letting: u64, lock: u8) -> u64
-    ensures { λ r. ⌜ r ≡ letGo rules letting lock ⌝ }
-{
-    if cars::multiring(rules) {
-        return words::with_lock(letting, lock);
-    }
-    letting
 }
 
 // The event that a rule gives.
@@ -130,7 +120,7 @@ impl Node {
                 Car::Dov(tag),
                 doing,
                 words::without_lock(held, tag.lock),
-                let_go(rules, letting, tag.lock),
+                crate::let_go(rules, letting, tag.lock),
             ),
         }
     }

@@ -1,13 +1,10 @@
-// One user node: what it is, the nine rules by which it answers a car that arrives, the three actions between steps,
-// and what 13 and 15 say of one node.
+// One user node: what it is, the nine rules by which it answers a car that arrives, and what 13 and 15 say of one node.
 ghost use mathlib.Core.Path.{_≡_};
 ghost use Rattle.usernode.specs.Node.{had, isIdle, wantsTrain};
-ghost use Rattle.usernode.specs.Turn.{eventLetter, eventLock};
-ghost use Rattle.usernode.specs.Actions.{actionAnswerNumber};
+ghost use Rattle.usernode.specs.Turn.{letGo, eventLetter, eventLock};
 use cars::Car;
 use cars::Tag;
 
-mod actions;
 mod astray;
 mod deeds;
 mod rules;
@@ -60,41 +57,6 @@ pub struct Turn {
     pub event: Event,
 }
 
-// The three actions between steps.
-pub enum Action {
-    Take,
-    Release,
-    Force,
-}
-
-// The answer to an action: accepted, 7 to 12, or 13.
-pub enum ActionAnswer {
-    Accepted,
-    NoSuchNode,
-    NoSuchLock,
-    NotIdle,
-    Holds,
-    LettingGo,
-    DoesNotHold,
-    BadState,
-}
-
-// The answer's number in 01; 0: accepted.
-pub fn answer_number(answer: ActionAnswer) -> u8
-    ensures { λ r. ⌜ r ≡ actionAnswerNumber answer ⌝ }
-{
-    match answer {
-        ActionAnswer::Accepted => 0,
-        ActionAnswer::NoSuchNode => 7,
-        ActionAnswer::NoSuchLock => 8,
-        ActionAnswer::NotIdle => 9,
-        ActionAnswer::Holds => 10,
-        ActionAnswer::LettingGo => 11,
-        ActionAnswer::DoesNotHold => 12,
-        ActionAnswer::BadState => 13,
-    }
-}
-
 // The event's letter in a line; 0 for no event.
 pub fn event_letter(event: Event) -> u8
     ensures { λ r. ⌜ r ≡ eventLetter event ⌝ }
@@ -134,6 +96,16 @@ pub fn is_idle(activity: Activity) -> bool
         Activity::ToSendDov(lock) => false,
         Activity::WaitingDov(lock) => false,
     }
+}
+
+// The letting-go word where a held lock is given up.
+pub fn let_go(rules: u8, letting: u64, lock: u8) -> u64
+    ensures { λ r. ⌜ r ≡ letGo rules letting lock ⌝ }
+{
+    if cars::multiring(rules) {
+        return words::with_lock(letting, lock);
+    }
+    letting
 }
 
 impl Node {

@@ -6,7 +6,7 @@ use Rattle.lists.specs.Refusal.{refusedIf}
 use Rattle.words.specs.Words.{has, withLock, withoutLock, least, allBelow}
 use Rattle.cars.specs.Cars.{multiring, isNode, names, noticeNames, carNames}
 use Rattle.plan.specs.Plan.{valueAt, valueInRange, placeInRange, headsInRange, inRange, sizeOf, junctionsOf, nodesBefore, junctionsBefore, nodeCount, junctionCount}
-use Rattle.usernode.specs.Actions.{wishNumber, releaseNumber, laterNumber, nodeNumber, busyWith, released, acted}
+use Rattle.acts.specs.Actions.{wishNumber, releaseNumber, laterNumber, nodeNumber, busyWith, released, acted}
 use Rattle.usernode.specs.Astray.{waitsReqp, waitsDov, unready, astray}
 use Rattle.usernode.specs.Node.{had, isIdle, wantsTrain}
 use Rattle.usernode.specs.Rules.{onLetting, onGap, onIdle, onReqp, onFailp, onDov, rule}

@@ -8,7 +8,7 @@ use Rattle.cars.specs.declared.Car.{Car}
 use Rattle.cars.specs.declared.Car.the-variants.{Idle, Token, Null, Reqp, Failp, Dov, Gotp, Didv}
 use Rattle.plan.specs.declared.Plan.{Plan}
 use Rattle.plan.specs.Plan.{nodeCount, junctionCount}
-use Rattle.usernode.specs.declared.Action.{Action}
+use Rattle.acts.specs.declared.Action.{Action}
 use Rattle.usernode.specs.declared.Event.{Event}
 use Rattle.usernode.specs.declared.Event.the-variants.{Nothing, Granted, Failed, Lost, Back, Sent}
 use Rattle.junction.specs.declared.Junction.{Junction}

@@ -1,5 +1,5 @@
 -- An action: 13 first, then the answer without 13.
-use Rattle.usernode.specs.Actions.{actionAnswerNumber}
+use Rattle.acts.specs.Actions.{actionAnswerNumber}
 use Rattle.ring.specs.Actions.{acting, actionTold}
 use borrow.Author.Needs.{needs}
 use Rattle.ring.proofs.State.act.Statement.{statement}

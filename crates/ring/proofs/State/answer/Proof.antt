@@ -2,7 +2,7 @@
 use native.Mathlib.Omega.{arith}
 use mathlib.Core.Path.{sym, _∙_}
 use Rattle.ring.proofs.Laws.{node-place}
-use Rattle.usernode.specs.Actions.{actionAnswerNumber}
+use Rattle.acts.specs.Actions.{actionAnswerNumber}
 use Rattle.ring.specs.State.{nodeOf, restNode}
 use Rattle.ring.specs.Actions.{actionNumber}
 use Rattle.lists.specs.Refusal.{refusedIf}

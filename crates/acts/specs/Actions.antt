@@ -2,15 +2,15 @@
 use Prim.Native.Nat.{ℕ}
 use mathlib.Core.Bool.{Bool, cond, not}
 use Rattle.words.specs.Words.{has, withoutLock}
 use Rattle.usernode.specs.declared.Node.{Node}
 use Rattle.usernode.specs.declared.Activity.{Activity}
 use Rattle.usernode.specs.declared.Activity.the-variants.{ToSendReqp, ToSendDov}
-use Rattle.usernode.specs.declared.Action.{Action}
-use Rattle.usernode.specs.declared.Action.the-variants.{Take, Release, Force}
-use Rattle.usernode.specs.declared.ActionAnswer.{ActionAnswer}
-use Rattle.usernode.specs.declared.ActionAnswer.the-variants.{Accepted, NoSuchNode, NoSuchLock, NotIdle, Holds, LettingGo, DoesNotHold, BadState}
+use Rattle.acts.specs.declared.Action.{Action}
+use Rattle.acts.specs.declared.Action.the-variants.{Take, Release, Force}
+use Rattle.acts.specs.declared.ActionAnswer.{ActionAnswer}
+use Rattle.acts.specs.declared.ActionAnswer.the-variants.{Accepted, NoSuchNode, NoSuchLock, NotIdle, Holds, LettingGo, DoesNotHold, BadState}
 use Rattle.usernode.specs.Node.{isIdle}
 use Rattle.usernode.specs.Turn.{letGo}
 
 -- the number of an answer; 0: accepted
 unfoldable pub actionAnswerNumber : ActionAnswer → ℕ

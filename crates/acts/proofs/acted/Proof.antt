@@ -1,8 +1,8 @@
--- `usernode::Node::acted` meets its contract. On each way to a return, the tests and calls on the way choose the case of the definition.
-use Rattle.usernode.specs.Actions.{acted}
+-- `acted` meets its contract. On each way to a return, the tests and calls on the way choose the case of the definition.
+use Rattle.acts.specs.Actions.{acted}
 use borrow.Author.Needs.{needs}
-use Rattle.usernode.proofs.Node.acted.Statement.{statement}
-use Rattle.usernode.proofs.Node.acted.Tie as tie
+use Rattle.acts.proofs.acted.Statement.{statement}
+use Rattle.acts.proofs.acted.Tie as tie
 
 enum-told : tie.Need-enum-told
 enum-told c = search needs

@@ -1,8 +1,8 @@
--- `usernode::answer_number` meets its contract. On each way to a return, the tests and calls on the way choose the case of the definition.
-use Rattle.usernode.specs.Actions.{actionAnswerNumber}
+-- `answer_number` meets its contract. On each way to a return, the tests and calls on the way choose the case of the definition.
+use Rattle.acts.specs.Actions.{actionAnswerNumber}
 use borrow.Author.Needs.{needs}
-use Rattle.usernode.proofs.answer_number.Statement.{statement}
-use Rattle.usernode.proofs.answer_number.Tie as tie
+use Rattle.acts.proofs.answer_number.Statement.{statement}
+use Rattle.acts.proofs.answer_number.Tie as tie
 
 enum-told : tie.Need-enum-told
 enum-told c = search needs

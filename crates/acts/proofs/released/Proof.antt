@@ -1,8 +1,8 @@
--- `usernode::Node::released` meets its contract. On each way to a return, the tests and calls on the way choose the case of the definition.
-use Rattle.usernode.specs.Actions.{released}
+-- `released` meets its contract. On each way to a return, the tests and calls on the way choose the case of the definition.
+use Rattle.acts.specs.Actions.{released}
 use borrow.Author.Needs.{needs}
-use Rattle.usernode.proofs.Node.released.Statement.{statement}
-use Rattle.usernode.proofs.Node.released.Tie as tie
+use Rattle.acts.proofs.released.Statement.{statement}
+use Rattle.acts.proofs.released.Tie as tie
 
 without-lock-requires : tie.Need-without-lock-requires
 without-lock-requires c κs = search needs

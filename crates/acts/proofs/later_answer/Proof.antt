@@ -1,8 +1,8 @@
--- `usernode::Node::later_answer` meets its contract. On each way to a return, the tests and calls on the way choose the case of the definition.
-use Rattle.usernode.specs.Actions.{laterNumber}
+-- `later_answer` meets its contract. On each way to a return, the tests and calls on the way choose the case of the definition.
+use Rattle.acts.specs.Actions.{laterNumber}
 use borrow.Author.Needs.{needs}
-use Rattle.usernode.proofs.Node.later_answer.Statement.{statement}
-use Rattle.usernode.proofs.Node.later_answer.Tie as tie
+use Rattle.acts.proofs.later_answer.Statement.{statement}
+use Rattle.acts.proofs.later_answer.Tie as tie
 
 enum-told : tie.Need-enum-told
 enum-told c = search needs

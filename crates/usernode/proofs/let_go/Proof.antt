@@ -1,8 +1,8 @@
 -- `usernode::deeds::let_go` meets its contract. On each way to a return, the tests and calls on the way choose the case of the definition.
 use Rattle.usernode.specs.Turn.{letGo}
 use borrow.Author.Needs.{needs}
-use Rattle.usernode.proofs.deeds.let_go.Statement.{statement}
-use Rattle.usernode.proofs.deeds.let_go.Tie as tie
+use Rattle.usernode.proofs.let_go.Statement.{statement}
+use Rattle.usernode.proofs.let_go.Tie as tie
 
 multiring-requires : tie.Need-multiring-requires
 multiring-requires c κs = search needs

@@ -1,8 +1,8 @@
--- `usernode::Node::answer` meets its contract. On each way to a return, the tests and calls on the way choose the case of the definition.
-use Rattle.usernode.specs.Actions.{nodeNumber, actionAnswerNumber}
+-- `answer` meets its contract. On each way to a return, the tests and calls on the way choose the case of the definition.
+use Rattle.acts.specs.Actions.{nodeNumber, actionAnswerNumber}
 use borrow.Author.Needs.{needs}
-use Rattle.usernode.proofs.Node.answer.Statement.{statement}
-use Rattle.usernode.proofs.Node.answer.Tie as tie
+use Rattle.acts.proofs.answer.Statement.{statement}
+use Rattle.acts.proofs.answer.Tie as tie
 
 is-idle-requires : tie.Need-is-idle-requires
 is-idle-requires c κs = search needs
