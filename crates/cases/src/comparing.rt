@@ -1,8 +1,6 @@
 // Whether a night file gives exactly the lines expected.
+use run::NIGHT_CEILING;
 use run::Run;
-
-// The ceiling of steps.
-const CEILING: u64 = 1000000;
 
 // Whether a run's lines are the expected ones. The buffer is small, so that some runs fill several.
 fn lines_agree(start: Run, schedule: &[u8], expected: &[u8]) -> bool {
@@ -10,7 +8,7 @@ fn lines_agree(start: Run, schedule: &[u8], expected: &[u8]) -> bool {
     let mut run = start;
     let mut place = 0;
     loop {
-        let filled = run.fill(schedule, CEILING, &mut buffer);
+        let filled = run.fill(schedule, NIGHT_CEILING, &mut buffer);
         let used = filled.used;
         if expected.len() - place < used {
             return false;

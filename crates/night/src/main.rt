@@ -2,10 +2,8 @@
 // model decides all else.
 use libc::STDIN_FILENO;
 use libc::STDOUT_FILENO;
+use run::NIGHT_CEILING;
 use run::Run;
-
-// The ceiling of steps.
-const CEILING: u64 = 1000000;
 
 // Writes bytes to standard output, and says where that fails.
 fn write_out(bytes: &[u8]) -> bool {
@@ -21,7 +19,7 @@ fn write_lines(start: Run, schedule: &[u8]) {
     let mut buffer = io::large_buffer();
     let mut run = start;
     loop {
-        let filled = run.fill(schedule, CEILING, &mut buffer);
+        let filled = run.fill(schedule, NIGHT_CEILING, &mut buffer);
         let used = filled.used;
         if !write_out(&buffer[..used]) {
             return;

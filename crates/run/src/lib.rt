@@ -15,6 +15,9 @@ mod filling;
 mod onward;
 mod results;
 
+// The night program's ceiling of steps. A run takes any.
+pub const NIGHT_CEILING: u64 = 1000000;
+
 // What the steps so far have reached: the ring's state, what is counted, and how many steps were done.
 pub struct Reached {
     pub state: State,
