@@ -2,8 +2,8 @@
 ghost use mathlib.Core.Path.{_≡_};
 ghost use Rattle.nightfile.specs.File.{fileNumber, fileAnswerNumber, planPart, schedulePart, planOf};
 ghost use Rattle.nightfile.specs.Items.{itemAnswerNumber, readAt};
-use plan::Plan;
 use acts::Action;
+use plan::Plan;
 
 mod bodies;
 mod contents;

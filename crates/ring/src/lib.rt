@@ -2,12 +2,12 @@
 ghost use mathlib.Core.Path.{_≡_};
 ghost use Rattle.ring.specs.State.{planAnswerNumber};
 ghost use Rattle.ring.specs.Step.{stepAnswerNumber};
+use acts::ActionAnswer;
 use cars::Car;
 use junction::Junction;
 use plan::JUNCTIONS;
 use plan::NODES;
 use plan::Plan;
-use acts::ActionAnswer;
 use usernode::Event;
 use usernode::Node;
 use zeronode::ZeroNode;

@@ -13,11 +13,11 @@ use crate::Phase;
 use crate::Reached;
 use crate::Run;
 use crate::Saying;
+use acts::Action;
 use nightfile::Cursor;
 use nightfile::Item;
 use nightfile::ItemAnswer;
 use tally::LOCKS;
-use acts::Action;
 use usernode::Event;
 
 // The letter of an accepted action.
