@@ -1,13 +1,15 @@
 -- One theorem for each public function of the night file, the line writer, the tally and the run: two answers that keep its promise are equal. A
 -- part of the caller's file is told by its bytes; a line's answer stands with the buffer's content.
 use Prim.Native.Nat.{ℕ}
-use mathlib.Core.Path.{_≡_}
+use mathlib.Core.Path.{_≡_, _∙_, sym}
 use mathlib.Core.List.{List}
 use lib.ListN.{length}
+use denote.Ref.{RefT}
 use Rattle.usernode.specs.declared.Node.{Node}
 use Rattle.ring.specs.declared.Happening.{Happening}
 use Rattle.nightfile.specs.declared.FileAnswer.{FileAnswer}
 use Rattle.nightfile.specs.declared.ItemAnswer.{ItemAnswer}
+use Rattle.nightfile.specs.declared.Reader.{Reader}
 use Rattle.nightfile.specs.File.{fileAnswerNumber, fileNumber, planPart, schedulePart, planOf}
 use Rattle.nightfile.specs.Items.{itemAnswerNumber, readAt}
 use Rattle.lines.specs.declared.Written.{Written}
@@ -44,12 +46,13 @@ read-plan-settled part = settled (planOf part)
 pub read-settled : (schedule : List ℕ) (at : ℕ) → Settled (λ r. r ≡ readAt schedule at)
 read-settled schedule at = settled (readAt schedule at)
 
--- the item that the reader which holds the slice finds, and the place to which it moves
+-- the item that the reader which holds the slice finds; at place 0 it is what `first_item` answers
 pub item-settled : (schedule : List ℕ) (at : ℕ) → Settled (λ r. r ≡ readAt schedule at .answer)
 item-settled schedule at = settled (readAt schedule at .answer)
 
-pub moved-on-settled : (schedule : List ℕ) (at : ℕ) → Settled (λ r. r ≡ readAt schedule at .at)
-moved-on-settled schedule at = settled (readAt schedule at .at)
+-- that reader itself, made new or moved on: its slice and its place
+pub reader-settled : (schedule : RefT (List ℕ)) (at : ℕ) → Settled (λ (r : Reader). (r .schedule ≡ schedule) × (r .at ≡ at))
+reader-settled schedule at a b p q = λ i. record { schedule = (p .0 ∙ sym (q .0)) i; at = (p .1 ∙ sym (q .1)) i }
 
 -- lines
 pub written-number-settled : (written : Written) → Settled (λ r. r ≡ writtenNumber written)
