@@ -13,6 +13,7 @@ use Rattle.cars.specs.declared.Car.{Car}
 use Rattle.plan.specs.Plan.{valueAt, inRange}
 use Rattle.plan.proofs.Laws.{in-range, value-at-most}
 use Rattle.usernode.specs.declared.Node.{Node}
+use Rattle.usernode.specs.declared.Turn.{Turn}
 use Rattle.usernode.specs.Node.{wantsTrain}
 use Rattle.usernode.specs.Astray.{astray}
 use Rattle.junction.specs.declared.Junction.{Junction}
@@ -45,15 +46,14 @@ pub record Inside (state : State) (size low k : ℕ) (wants : Bool) (entered wal
   pub wanting : wants ≡ wanted state low k
   pub so-far : walk ≡ iterate (onNode state) k entered
 
--- a node's turn, put together from what the call gave
-pub node-met : (state : State) (walk : Walk) (node : Node) (happening : Happening) (either : Bool)
-    → node ≡ turnHere state walk .node
-    → happening .event ≡ turnHere state walk .event
-    → either ≡ (walk .astray || astray (nodeHere state walk) (walk .passed + 1) (walk .last))
-    → walkOf (walk .passed + 1) (walk .turned) (nodeHere state walk .car) either (set (walk .nodes) (walk .passed) node) (set (walk .events) (walk .passed) happening) (walk .junctions) ≡ onNode state walk
+-- a node's turn, put together from what the calls gave
+pub node-turned : (state : State) (walk : Walk) (turned : Turn) (stray either : Bool)
+    → turned ≡ turnHere state walk
+    → stray ≡ astray (nodeHere state walk) (walk .passed + 1) (walk .last)
+    → either ≡ (walk .astray || stray)
+    → walkOf (walk .passed + 1) (walk .turned) (nodeHere state walk .car) either (set (walk .nodes) (walk .passed) (turned .node)) (set (walk .events) (walk .passed) (record { event = turned .event })) (walk .junctions) ≡ onNode state walk
 unfolding onNode
-node-met state walk node happening either n h e =
-    λ i. walkOf (walk .passed + 1) (walk .turned) (nodeHere state walk .car) (e i) (set (walk .nodes) (walk .passed) (n i)) (set (walk .events) (walk .passed) (record { event = h i })) (walk .junctions)
+node-turned state walk turned stray either t s e = simp (e, s, t)
 
 -- a junction's turn, put together likewise
 pub junction-turned : (state : State) (size k : ℕ) (before entered inside : Walk) (junction : Junction) (wants : Bool)

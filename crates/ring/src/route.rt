@@ -2,17 +2,12 @@
 ghost use mathlib.Core.Path.{_≡_};
 ghost use mathlib.Core.Bool.{true, _||_};
 ghost use Rattle.plan.specs.Plan.{inRange};
-ghost use Rattle.usernode.specs.Node.{wantsTrain};
-ghost use Rattle.usernode.specs.Turn.{turn};
-ghost use Rattle.usernode.specs.Astray.{astray};
 ghost use Rattle.ring.specs.Walk.{walk};
 use crate::Happening;
 use crate::State;
 use crate::Walk;
-use cars::Car;
 use plan::NODES;
 use usernode::Event;
-use usernode::Node;
 
 // Whether one of two things holds.
 fn either(a: bool, b: bool) -> bool
@@ -22,33 +17,6 @@ fn either(a: bool, b: bool) -> bool
         return true;
     }
     b
-}
-
-// A node that a car has met: the node and its event after its turn; and whether an own car met a node that was not ready for it,
-// and whether a node wants a train, here or before.
-struct Met {
-    node: Node,
-    happening: Happening,
-    astray: bool,
-    wants: bool,
-}
-
-// The turn of a node with this number.
-fn meet(node: Node, rules: u8, number: u8, arrival: Car, already: bool, wanted: bool) -> Met
-    ensures { λ r. ⌜ r .node ≡ turn rules number arrival node .node ⌝ }
-    ensures { λ r. ⌜ r .happening .event ≡ turn rules number arrival node .event ⌝ }
-    ensures { λ r. ⌜ r .astray ≡ (already || astray node number arrival) ⌝ }
-    ensures { λ r. ⌜ r .wants ≡ (wanted || wantsTrain node) ⌝ }
-{
-    let turn = node.turn(rules, number, arrival);
-    let next = turn.node;
-    let event = turn.event;
-    Met {
-        node: next,
-        happening: Happening { event: event },
-        astray: either(already, node.astray(number, arrival)),
-        wants: either(wanted, node.wants_train()),
-    }
 }
 
 impl State {
@@ -75,12 +43,12 @@ impl State {
             let value = plan.values[place as usize];
             if value == 0 {
                 let node = self.nodes[passed as usize];
-                let met = meet(node, rules, passed + 1, last, astray, false);
-                let next = met.node;
-                let happening = met.happening;
+                let turn = node.turn(rules, passed + 1, last);
+                astray = either(astray, node.astray(passed + 1, last));
+                let next = turn.node;
+                let event = turn.event;
                 nodes[passed as usize] = next;
-                events[passed as usize] = happening;
-                astray = met.astray;
+                events[passed as usize] = Happening { event: event };
                 last = node.car;
                 passed += 1;
                 place += 1;
@@ -93,13 +61,13 @@ impl State {
                 last = junction.subring;
                 while k < value {
                     let node = self.nodes[passed as usize];
-                    let met = meet(node, rules, passed + 1, last, astray, wants);
-                    let next = met.node;
-                    let happening = met.happening;
+                    let turn = node.turn(rules, passed + 1, last);
+                    astray = either(astray, node.astray(passed + 1, last));
+                    wants = either(wants, node.wants_train());
+                    let next = turn.node;
+                    let event = turn.event;
                     nodes[passed as usize] = next;
-                    events[passed as usize] = happening;
-                    astray = met.astray;
-                    wants = met.wants;
+                    events[passed as usize] = Happening { event: event };
                     last = node.car;
                     passed += 1;
                     k += 1;

@@ -2,10 +2,12 @@
 -- loop's: inside a subring it is the definition's up to this node of the subring, and so is what is known of who wants a train.
 use Prim.Native.Nat.{_-_}
 use borrow.Author.Needs.{needs}
+use mathlib.Core.Path.{ap, _∙_}
+use mathlib.Core.Bool.{Bool, _||_}
 use Rattle.plan.specs.Plan.{valueAt}
 use Rattle.ring.specs.State.{restNode, restJunction}
 use Rattle.ring.specs.Walk.{quiet, nodeHere, junctionHere, turnHere, intoSubring, setOut}
-use Rattle.ring.proofs.Walking.{walkOf, Around, Inside, around-start, around-node, node-met, inside-start, inside-node, around-junction, junction-turned, walked}
+use Rattle.ring.proofs.Walking.{walkOf, Around, Inside, around-start, around-node, node-turned, inside-start, inside-node, around-junction, junction-turned, walked}
 use Rattle.ring.proofs.State.walk.Statement.{statement}
 use Rattle.ring.proofs.State.walk.Tie as tie
 
@@ -44,11 +46,20 @@ mul-node c = search needs
 element-copy-out-node : tie.Need-element-copy-out-node Inv-loop2 μ-loop2 Inv-loop μ-loop
 element-copy-out-node c = search needs
 
-add-meet : tie.Need-add-meet Inv-loop2 μ-loop2 Inv-loop μ-loop
-add-meet c = search needs
+add-turn : tie.Need-add-turn Inv-loop2 μ-loop2 Inv-loop μ-loop
+add-turn c = search needs
 
-meet-requires : tie.Need-meet-requires Inv-loop2 μ-loop2 Inv-loop μ-loop
-meet-requires c κs = search needs
+turn-requires : tie.Need-turn-requires Inv-loop2 μ-loop2 Inv-loop μ-loop
+turn-requires c κs = search needs
+
+add-astray : tie.Need-add-astray Inv-loop2 μ-loop2 Inv-loop μ-loop
+add-astray c = search needs
+
+astray-requires : tie.Need-astray-requires Inv-loop2 μ-loop2 Inv-loop μ-loop
+astray-requires c κs = search needs
+
+either-requires : tie.Need-either-requires Inv-loop2 μ-loop2 Inv-loop μ-loop
+either-requires c κs = search needs
 
 cast-nodes : tie.Need-cast-nodes Inv-loop2 μ-loop2 Inv-loop μ-loop
 cast-nodes c = search needs
@@ -80,7 +91,8 @@ loop-less c = search needs
 loop-again : tie.Need-loop-again Inv-loop2 μ-loop2 Inv-loop μ-loop
 unfolding valueAt turnHere nodeHere restNode
 loop-again c =
-    around-node _ _ _ (c .before .before .before .before .before .before .before .loop .inv) (c .before .before .before .before .before .before .loop-test .taken) _ (c .before .before .before .before .if1 .taken) (node-met _ _ _ _ _ (c .before .before .meet .ensures .0) (c .before .before .meet .ensures .1 .0) (c .before .before .meet .ensures .1 .1 .0))
+    around-node _ _ _ (c .before .before .before .before .before .before .before .before .loop .inv) (c .before .before .before .before .before .before .before .loop-test .taken) _ (c .before .before .before .before .before .if1 .taken)
+    (node-turned _ _ _ _ _ (c .before .before .before .turn .ensures) (c .before .before .astray .ensures) (c .before .either .ensures))
 
 cast-junction : tie.Need-cast-junction Inv-loop2 μ-loop2 Inv-loop μ-loop
 cast-junction c = search needs
@@ -104,11 +116,26 @@ mul-node-2 c = search needs
 element-copy-out-node-2 : tie.Need-element-copy-out-node-2 Inv-loop2 μ-loop2 Inv-loop μ-loop
 element-copy-out-node-2 c = search needs
 
-add-meet-2 : tie.Need-add-meet-2 Inv-loop2 μ-loop2 Inv-loop μ-loop
-add-meet-2 c = search needs
+add-turn-2 : tie.Need-add-turn-2 Inv-loop2 μ-loop2 Inv-loop μ-loop
+add-turn-2 c = search needs
 
-meet-requires-2 : tie.Need-meet-requires-2 Inv-loop2 μ-loop2 Inv-loop μ-loop
-meet-requires-2 c κs = search needs
+turn-requires-2 : tie.Need-turn-requires-2 Inv-loop2 μ-loop2 Inv-loop μ-loop
+turn-requires-2 c κs = search needs
+
+add-astray-2 : tie.Need-add-astray-2 Inv-loop2 μ-loop2 Inv-loop μ-loop
+add-astray-2 c = search needs
+
+astray-requires-2 : tie.Need-astray-requires-2 Inv-loop2 μ-loop2 Inv-loop μ-loop
+astray-requires-2 c κs = search needs
+
+either-requires-2 : tie.Need-either-requires-2 Inv-loop2 μ-loop2 Inv-loop μ-loop
+either-requires-2 c κs = search needs
+
+wants-train-requires : tie.Need-wants-train-requires Inv-loop2 μ-loop2 Inv-loop μ-loop
+wants-train-requires c κs = search needs
+
+either-requires-3 : tie.Need-either-requires-3 Inv-loop2 μ-loop2 Inv-loop μ-loop
+either-requires-3 c κs = search needs
 
 cast-nodes-2 : tie.Need-cast-nodes-2 Inv-loop2 μ-loop2 Inv-loop μ-loop
 cast-nodes-2 c = search needs
@@ -140,11 +167,11 @@ loop2-less c = search needs
 loop2-again : tie.Need-loop2-again Inv-loop2 μ-loop2 Inv-loop μ-loop
 unfolding turnHere nodeHere restNode
 loop2-again c =
-    inside-node _ _ _ _ _ _ _ _ _ (c .before .before .before .before .before .loop2 .inv) (c .before .before .before .before .loop2-test .taken) (c .before .before .meet2 .ensures .1 .1 .1)
-    (node-met _ _ _ _ _ (c .before .before .meet2 .ensures .0) (c .before .before .meet2 .ensures .1 .0) (c .before .before .meet2 .ensures .1 .1 .0))
+    inside-node _ _ _ _ _ _ _ _ _ (c .before .before .before .before .before .before .before .before .loop2 .inv) (c .before .before .before .before .before .before .before .loop2-test .taken) (c .before .either3 .ensures ∙ ap (λ (b : Bool). c .before .before .before .before .before .before .before .before .loop2 .wants || b) (c .before .before .wants-train .ensures))
+    (node-turned _ _ _ _ _ (c .before .before .before .before .before .turn2 .ensures) (c .before .before .before .before .astray2 .ensures) (c .before .before .before .either2 .ensures))
 
-turn-requires : tie.Need-turn-requires Inv-loop2 μ-loop2 Inv-loop μ-loop
-turn-requires c κs = search needs
+turn-requires-3 : tie.Need-turn-requires-3 Inv-loop2 μ-loop2 Inv-loop μ-loop
+turn-requires-3 c κs = search needs
 
 cast-junctions : tie.Need-cast-junctions Inv-loop2 μ-loop2 Inv-loop μ-loop
 cast-junctions c = search needs
@@ -168,7 +195,7 @@ loop-again-2 : tie.Need-loop-again-2 Inv-loop2 μ-loop2 Inv-loop μ-loop
 unfolding valueAt intoSubring junctionHere restJunction
 loop-again-2 c =
     around-junction _ _ _ _ _ _ _ (c .before .before .before .before .before .before .before .loop .inv) (c .before .before .before .before .before .before .loop-test .taken) (c .before .before .before .before .if1 .left) (c .before .before .loop2 .inv) (c .before .loop2-test .left)
-    (junction-turned _ _ _ _ _ _ _ _ (c .before .before .loop2 .inv) (c .before .loop2-test .left) (c .turn .ensures))
+    (junction-turned _ _ _ _ _ _ _ _ (c .before .before .loop2 .inv) (c .before .loop2-test .left) (c .turn3 .ensures))
 
 returns : tie.Need-returns Inv-loop2 μ-loop2 Inv-loop μ-loop
 returns c = walked _ _ _ (c .before .loop .inv) (c .loop-test .left)
@@ -187,8 +214,11 @@ walk-spec =
     cast-node
     mul-node
     element-copy-out-node
-    add-meet
-    meet-requires
+    add-turn
+    turn-requires
+    add-astray
+    astray-requires
+    either-requires
     cast-nodes
     mul-nodes
     array-set-from-nodes
@@ -206,8 +236,13 @@ walk-spec =
     cast-node-2
     mul-node-2
     element-copy-out-node-2
-    add-meet-2
-    meet-requires-2
+    add-turn-2
+    turn-requires-2
+    add-astray-2
+    astray-requires-2
+    either-requires-2
+    wants-train-requires
+    either-requires-3
     cast-nodes-2
     mul-nodes-2
     array-set-from-nodes-2
@@ -218,7 +253,7 @@ walk-spec =
     add-k
     loop2-less
     loop2-again
-    turn-requires
+    turn-requires-3
     cast-junctions
     mul-junctions
     array-set-from-junctions
