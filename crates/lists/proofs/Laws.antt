@@ -1,7 +1,7 @@
 -- Laws of the definitions in specs/Loops: none, one place more, and what holds of each place.
 use Prim.Native.Nat.{ℕ, zero, suc, _+_, _*_, _≤_, _<_}
 use mathlib.Core.Path.{_≡_, refl, _∙_, ap, sym}
-use mathlib.Core.Bool.{Bool, true, false, _&&_, _||_}
+use mathlib.Core.Bool.{Bool, true, false, _&&_, _||_, or-true, true≢false}
 use native.Mathlib.Numerals.{add-one}
 use mathlib.Core.Logic.{_⊎_, inl, inr, ⊎-elim}
 use native.Mathlib.Nat.{not-suc-le-zero, eq-or-lt-of-le, mul-suc}
@@ -75,6 +75,28 @@ every-not f n k h e = go (every f n) refl
     go : (b : Bool) → every f n ≡ b → b ≡ false
     go true p = cc (every-at f n k p h)
     go false p = refl
+
+-- one place of which it holds is enough
+pub some-at : (f : ℕ → Bool) (n k : ℕ) → k < n → f k ≡ true → some f n ≡ true
+unfolding some
+some-at f zero k h e = absurd (not-suc-le-zero h)
+some-at f (suc n) k h e =
+    ⊎-elim (λ l. ap (λ (b : Bool). b || f n) (some-at f n k l e)) (λ q. ap (λ (b : Bool). some f n || b) (ap f (sym q) ∙ e) ∙ or-true (some f n)) (last-or-below h)
+
+-- where it holds of some place, there is one
+pub record Found (f : ℕ → Bool) (n : ℕ) : Type 0 where
+  pub place : ℕ
+  pub below : place < n
+  pub holds : f place ≡ true
+
+pub some-found : (f : ℕ → Bool) (n : ℕ) → some f n ≡ true → Found f n
+unfolding some
+some-found f zero e = absurd (true≢false (sym e))
+some-found f (suc n) e = go (some f n) refl (λ t. some-found f n t)
+  where
+    go : (b : Bool) → some f n ≡ b → (b ≡ true → Found f n) → Found f (suc n)
+    go true p on = let x = on refl in record { place = x .place; below = omega (arith, x .below); holds = x .holds }
+    go false p on = record { place = n; below = omega arith; holds = rw p at e }
 
 -- a sum of n terms, none of them over b
 pub total-at-most : (f : ℕ → ℕ) (b n : ℕ) → ((k : ℕ) → k < n → f k ≤ b) → total f n ≤ b * n

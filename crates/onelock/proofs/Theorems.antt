@@ -1,0 +1,48 @@
+-- Demand 3: the sentences of specs/Theorems, proved of every accepted plan and every schedule.
+use Prim.Native.Nat.{_+_, _≤_, _<_}
+use mathlib.Core.Path.{_∙_, ap, sym, subst}
+use native.Mathlib.Omega.{arith}
+use Rattle.onelock.specs.Theorems.{OnePlainLock, OneDeedAtATime, TrueWords, NeverStuck, NeverBadState, ShortQueue, TheHolderHasIt, OnlyTheHolderHasIt}
+use Rattle.plan.specs.declared.Plan.{Plan}
+use Rattle.plan.specs.Plan.{valueAt, nodeCount}
+use Rattle.ring.specs.Step.{StepTold, done}
+use Rattle.onelock.specs.OneLock.{reached}
+use Rattle.onelock.proofs.Moments.{numbered, one-deed, agrees-sound, holder-has, has-holder}
+use Rattle.onelock.proofs.Reached.{step-done, act-number, number-small, kept-reached, good-reached, plan-reached}
+use Rattle.onelock.proofs.Items.{item-tells}
+use Rattle.onelock.proofs.Histories.{agrees}
+
+-- A
+pub one-plain-lock : OnePlainLock
+one-plain-lock plan r items lock = agrees-sound (agrees plan r items lock)
+
+pub one-deed-at-a-time : OneDeedAtATime
+one-deed-at-a-time plan r items item lock = one-deed (item-tells item lock (reached plan items) (kept-reached plan r items))
+
+-- B
+pub true-words : TrueWords
+true-words plan r items place below value tour lock =
+    let same = plan-reached plan r items in
+    good-reached plan r items .words place (subst (λ p. place < p .positions) (sym same) below)
+    (λ none. value (ap (λ (p : Plan). valueAt p place) (sym same) ∙ none)) tour lock
+
+-- C
+pub never-stuck : NeverStuck
+unfolding done
+never-stuck plan r items = ap (λ (t : StepTold). t .number) (step-done (reached plan items) (good-reached plan r items))
+
+pub never-bad-state : NeverBadState
+never-bad-state plan r items action node lock e =
+    let s = reached plan items in
+    omega (arith, number-small action s node lock, act-number action s node lock (good-reached plan r items))
+
+pub short-queue : ShortQueue
+short-queue plan r items =
+    subst (λ p. reached plan items .zeroth .count ≤ nodeCount p + 1) (plan-reached plan r items) (good-reached plan r items .short)
+
+-- D
+pub the-holder-has-it : TheHolderHasIt
+the-holder-has-it plan r items node lock n e = holder-has (agrees plan r items lock) e
+
+pub only-the-holder-has-it : OnlyTheHolderHasIt
+only-the-holder-has-it plan r items node lock n h = has-holder (agrees plan r items lock) (numbered (nodeCount plan) node n) h

@@ -1,0 +1,3 @@
+pub mod OneLock
+pub mod Theorems
+pub mod Examples
