@@ -1,6 +1,6 @@
 -- The schedules of specs/Examples have the histories stated there, by computation.
 use mathlib.Core.Path.{_≡_, refl}
-use Rattle.worked.proofs.Opened.{of-lists, of-words, of-cars, of-plan, of-usernode, of-zeronode, of-junction, of-ring}
+use Rattle.ring.proofs.Opened.{of-lists, of-words, of-cars, of-plan, of-usernode, of-zeronode, of-junction, of-ring}
 use Rattle.onelock.specs.OneLock.{afterItem, deedIf, deedOf, releases, deedsIn, deedsOf, timeOf, doneAfter, noted, historyFrom, history}
 use Rattle.onelock.specs.Examples.{ringPlan, ringItems, ringHistory, multiringPlan, multiringItems, multiringHistory}
 

@@ -1,4 +1,4 @@
--- The definitions that the worked runs compute with, opened together, crate by crate.
+-- The model's definitions, opened together crate by crate, for proofs by computation on them.
 use Prim.Native.Nat.{ℕ}
 use lib.Count.{trailingZeros}
 use Rattle.lists.specs.Loops.{every, some, total, iterate, inOrder}
@@ -18,13 +18,11 @@ use Rattle.zeronode.specs.Turn.{shifted, headOff, sends, appended, arrives, zer
 use Rattle.junction.specs.Rules.{within, outside, ifTrain, onGotp, onDidv, inTour, junctionRule}
 use Rattle.junction.specs.Sound.{junctionSound}
 use Rattle.junction.specs.Turn.{shadow, joins, junctionApply, junctionTurn}
 use Rattle.ring.specs.Actions.{actionNumber, actedState, handedBack, actingSound, acting}
 use Rattle.ring.specs.Sound.{zeroPasses, nodePasses, junctionPasses, sound}
 use Rattle.ring.specs.State.{restNode, restJunction, startOf, smallPlan, startState, nodeOf}
 use Rattle.ring.specs.Step.{nextState, stepNumber, refused, done, moving, stepping}
 use Rattle.ring.specs.Walk.{quiet, nodeHere, junctionHere, turnHere, onNode, wanted, intoSubring, outOfSubring, onJunction, onPosition, setOut, walk}
-use Rattle.worked.specs.Cases.{ringPlan, junctionPlan, goesOn, p1, p2, p3, p4, p5, p6, p7, first, p8, p8-missing, p9, p10, p11, p12}
-use Rattle.worked.specs.Watch.{at, sight, isToken, happened, events, changes, junctionChanges, inStep, watchSteps, answer, watch, run}
 
 unfoldable pub of-lists : ℕ
 unfolding every some total iterate inOrder refusedIf
@@ -57,7 +55,3 @@ of-junction = 0
 unfoldable pub of-ring : ℕ
 unfolding actionNumber actedState handedBack actingSound acting zeroPasses nodePasses junctionPasses sound restNode restJunction startOf smallPlan startState nodeOf nextState stepNumber refused done moving stepping quiet nodeHere junctionHere turnHere onNode wanted intoSubring outOfSubring onJunction onPosition setOut walk
 of-ring = 0
-
-unfoldable pub of-worked : ℕ
-unfolding ringPlan junctionPlan goesOn p1 p2 p3 p4 p5 p6 p7 first p8 p8-missing p9 p10 p11 p12 at sight isToken happened events changes junctionChanges inStep watchSteps answer watch run
-of-worked = 0
