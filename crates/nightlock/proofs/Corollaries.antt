@@ -1,0 +1,79 @@
+-- Demand 3 of a night run: the sentences of specs/Corollaries, proved of every accepted file and every ceiling.
+use Prim.Native.Nat.{ℕ, _-_}
+use mathlib.Core.Path.{_≡_, refl, _∙_, ap, sym, subst}
+use mathlib.Core.List.{List, []}
+use Rattle.plan.specs.Plan.{nodePlaces}
+use Rattle.ring.specs.declared.State.{State}
+use Rattle.ring.specs.State.{Told, startOf, startState}
+use Rattle.ring.specs.Actions.{actingSound}
+use Rattle.ring.specs.Step.{StepTold, steppingSound}
+use Rattle.nightfile.specs.File.{fileNumber, schedulePart}
+use Rattle.run.specs.Standing.{nodesOf, beginning, reachedNext, actionItem}
+use Rattle.run.specs.Whole.{tellingAll, manySteps, itemsFrom, onItems, onSteps, working}
+use Rattle.run.specs.Outcomes.{outcomeOf, fileCourse, fileOutcome}
+use Rattle.run.proofs.Moves.{AtItems, course-items, withNext}
+use Rattle.onelock.specs.OneLock.{Item, step, act, afterItem, afterAll, reached, history}
+use Rattle.onelock.proofs.Theorems.{never-stuck}
+use Rattle.nightlock.specs.NightLock.{planIn, itemsIn, stepsAmong}
+use Rattle.nightlock.specs.Corollaries.{EveryStateIsReached, EachMoveIsAnItem, NoStepRefused, TheLinesAreTheHistory}
+use Rattle.nightlock.proofs.Items.{plan-in-range, step-reached, act-reached, reached-more}
+use Rattle.nightlock.proofs.Deeds.{deedsFrom, deeds-history, tells-none}
+use Rattle.nightlock.proofs.Courses.{At, at-same, standing, Goes, none, goes-same, goes-telling, goes-items}
+
+-- the run of an accepted file begins at its items, with nothing done
+begins-items : (file : List ℕ) → fileNumber file ≡ 0 → AtItems (beginning file)
+unfolding beginning
+begins-items file e = record { not-over = refl; at-items = rw e }
+
+begins : (file : List ℕ) → fileNumber file ≡ 0 → At file [] (itemsIn file) (beginning file)
+unfolding beginning reached afterAll stepsAmong startState planIn
+begins file e = record { split = refl; state = rw (plan-in-range file e); steps = refl }
+
+-- so much is known of its course: it has nothing to tell at first, and goes through its items
+file-goes : (ceiling : ℕ) (file : List ℕ) → fileNumber file ≡ 0 → Goes file none [] (fileCourse ceiling file)
+unfolding fileCourse working tellingAll onSteps onItems manySteps beginning itemsIn
+file-goes ceiling file e =
+    let r = plan-in-range file e in
+    let schedule = schedulePart file in
+    let run = beginning file in
+    let a = begins file e in
+    subst (Goes file none []) (sym (course-items ceiling schedule run (begins-items file e)))
+    (goes-same _ none (λ lock. tells-none (planIn file .rules) lock nodePlaces 0 (nodesOf run - 0))
+    (goes-telling (nodesOf run - 0) run (onSteps ceiling schedule) a
+    (λ next. goes-items file r ceiling (itemsFrom schedule 0) (withNext run next) (at-same _ refl a))))
+
+-- each line stands where the items have brought the run
+pub every-state-is-reached : EveryStateIsReached
+every-state-is-reached ceiling file e = file-goes ceiling file e .each
+
+-- and each move of the run is one item more
+pub each-move-is-an-item : EachMoveIsAnItem
+unfolding reachedNext actionItem afterItem
+each-move-is-an-item file e run stands =
+    let plan = planIn file in
+    let r = plan-in-range file e in
+    let done = stands .done in (
+      ap (λ (s : State). steppingSound s .state) (stands .state) ∙ ap (λ (t : StepTold). t .state) (step-reached plan r done) ∙ sym (reached-more plan done step),
+      λ action node lock.
+          ap (λ (s : State). actingSound action s node lock .state) (stands .state)
+          ∙ ap (λ (t : Told). t .state) (act-reached plan r done action node lock) ∙ sym (reached-more plan done (act action node lock)),
+    )
+
+-- C of demand 3, for the run's own step
+pub no-step-refused : NoStepRefused
+no-step-refused file e items =
+    let r = plan-in-range file e in
+    ap (λ (t : StepTold). t .number) (step-reached (planIn file) r items) ∙ never-stuck (planIn file) r items
+
+-- from the start on, all that the course does is all that is done
+pub the-lines-are-the-history : TheLinesAreTheHistory
+unfolding fileOutcome outcomeOf history reached afterAll
+the-lines-are-the-history ceiling file e =
+    let g = file-goes ceiling file e in
+    let plan = planIn file in
+    record {
+      stands = standing (g .way .ends);
+      all = g .way .whole;
+      lines = λ lock. g .lines lock ∙ ap (λ (items : List Item). deedsFrom lock items (startOf plan)) (sym (g .way .sum))
+        ∙ sym (deeds-history lock (g .way .all) 0 (startOf plan));
+    }

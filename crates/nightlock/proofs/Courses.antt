@@ -1,0 +1,238 @@
+-- What is known of a course of a run that stands where a first part of its file's items has brought it: every line stands at such a place, and
+-- what the lines report of a lock is what the items do to it.
+use Prim.Native.Nat.{ℕ, zero, suc, _+_, _-_}
+use mathlib.Core.Path.{_≡_, refl, _∙_, ap, sym, subst}
+use mathlib.Core.Bool.{Bool, true, false, cond, true≢false}
+use mathlib.Core.List.{List, [], _∷_, _++_, append-nil, append-assoc}
+use native.Mathlib.Numerals.{add-one}
+use native.Mathlib.Omega.{arith}
+use lib.Dec.{ltb}
+use lib.Seq.{append-snoc}
+use Rattle.plan.specs.declared.Plan.{Plan}
+use Rattle.plan.specs.Plan.{inRange, nodeCount}
+use Rattle.acts.specs.declared.Action.{Action}
+use Rattle.ring.specs.declared.State.{State}
+use Rattle.ring.specs.declared.Happening.{Happening}
+use Rattle.ring.specs.State.{Told}
+use Rattle.ring.specs.Actions.{acting, actingSound}
+use Rattle.ring.specs.Step.{StepTold, stepping, steppingSound}
+use Rattle.nightfile.specs.declared.Item.{Item as FileItem}
+use Rattle.nightfile.specs.declared.Item.the-variants.{Steps, Act}
+use Rattle.run.specs.declared.Reached.{Reached}
+use Rattle.run.specs.declared.Run.{Run}
+use Rattle.run.specs.declared.Line.{Line}
+use Rattle.run.specs.declared.Phase.the-variants.{Ended, Cut}
+use Rattle.run.specs.Standing.{nodesOf, reachedNext, oneStep, past, stepsItem, actionItem, atEnd, allSaid}
+use Rattle.run.specs.Wording.{eventHere, isEvent, eventLine, actionLine, lockLine, lastLine}
+use Rattle.run.specs.Whole.{Said, Course, says, silence, telling, tellingAll, closing, closingAll, manySteps, items}
+use Rattle.run.specs.Outcomes.{isCut}
+use Rattle.run.proofs.Moves.{withNext, step-nodes}
+use Rattle.onelock.specs.OneLock.{Item, step, act, afterItem, reached, Deed, deedOf, deedsOf, deedsIn}
+use Rattle.onelock.proofs.Reached.{plan-reached}
+use Rattle.nightlock.specs.NightLock.{planIn, manySteps as itemSteps, asItems, itemsIn, stepsAmong, Stands, EachSaid, reports, reported}
+use Rattle.nightlock.proofs.Items.{step-reached, act-reached, reached-more, among-step, among-act}
+use Rattle.nightlock.proofs.Deeds.{deedsFrom, tells, tells-all, event-reports, no-event, action-reports, lock-reports, last-reports}
+
+-- a run that has done these items, with those left
+pub record At (file : List ℕ) (done left : List Item) (run : Run) : Type 0 where
+  pub split : itemsIn file ≡ done ++ left
+  pub state : run .reached .state ≡ reached (planIn file) done
+  pub steps : run .reached .steps ≡ stepsAmong done
+
+-- so it stands, as the statements say it
+abbrev pub standing : {file : List ℕ} {done left : List Item} {run : Run} → At file done left run → Stands file run
+standing {done} {left} a = record { done = done; left = left; split = a .split; state = a .state; steps = a .steps }
+
+-- what is reached is all that this looks at
+pub at-same : {file : List ℕ} {done left : List Item} {run : Run} (other : Run) → other .reached ≡ run .reached → At file done left run → At file done left other
+at-same other e a = record { split = a .split; state = ap (λ (x : Reached). x .state) e ∙ a .state; steps = ap (λ (x : Reached). x .steps) e ∙ a .steps }
+
+-- a line that is said where the run so stands
+abbrev pub BothStand : List ℕ → Said → Type 0
+BothStand file said = Stands file (said .before) × Stands file (said .after)
+
+-- a run at the end that has done some items more, all of them where it is not cut
+pub record Onward (file : List ℕ) (done : List Item) (end : Run) : Type 0 where
+  pub more : List Item
+  pub all : List Item
+  pub left : List Item
+  pub sum : all ≡ done ++ more
+  pub ends : At file all left end
+  pub whole : isCut (end .phase) ≡ false → left ≡ []
+
+-- a course after these items: it reports of each lock what is still to be told, and then what the items do that it does more
+pub record Goes (file : List ℕ) (toTell : ℕ → List Deed) (done : List Item) (c : Course) : Type 0 where
+  pub way : Onward file done (c .end)
+  pub each : EachSaid (BothStand file) (c .lines)
+  pub lines : (lock : ℕ) → reported (planIn file .rules) lock (c .lines) ≡ toTell lock ++ deedsFrom lock (way .more) (reached (planIn file) done)
+
+-- nothing to tell
+abbrev pub none : ℕ → List Deed
+none lock = []
+
+module _ {file : List ℕ} where
+  -- a line more
+  goes-says : (first toTell : ℕ → List Deed) (line : Line) (before after : Run) {done : List Item} {c : Course} → Stands file before → Stands file after
+      → ((lock : ℕ) → reports (planIn file .rules) lock line ≡ first lock) → Goes file toTell done c
+      → Goes file (λ lock. first lock ++ toTell lock) done (says line before after c)
+  unfolding says EachSaid reported
+  goes-says first toTell line before after {done} {c} b a e g =
+      let rules = planIn file .rules in
+      record {
+        way = g .way;
+        each = ((b, a), g .each);
+        lines = λ lock. ap (λ (now : List Deed). now ++ reported rules lock (c .lines)) (e lock)
+          ∙ ap (λ (rest : List Deed). first lock ++ rest) (g .lines lock) ∙ sym (append-assoc (first lock) (toTell lock) _);
+      }
+
+  -- what is to be told, said in another way
+  pub goes-same : (toTell other : ℕ → List Deed) {done : List Item} {c : Course} → ((lock : ℕ) → toTell lock ≡ other lock)
+      → Goes file toTell done c → Goes file other done c
+  goes-same toTell other {done} e g =
+      record {
+        way = g .way;
+        each = g .each;
+        lines = λ lock. g .lines lock ∙ ap (λ (first : List Deed). first ++ deedsFrom lock (g .way .more) (reached (planIn file) done)) (e lock);
+      }
+
+  -- what was told is what an item did
+  goes-item : {done : List Item} {c : Course} (item : Item) → Goes file (λ lock. deedsOf lock item (reached (planIn file) done)) (done ++ (item ∷ [])) c
+      → Goes file none done c
+  unfolding deedsFrom
+  goes-item {done} item g =
+      let w = g .way in
+      record {
+        way = record {
+          more = item ∷ w .more;
+          all = w .all;
+          left = w .left;
+          sum = w .sum ∙ append-snoc done item (w .more);
+          ends = w .ends;
+          whole = w .whole;
+        };
+        each = g .each;
+        lines = λ lock. g .lines lock
+          ∙ ap (λ (s : State). deedsOf lock item (reached (planIn file) done) ++ deedsFrom lock (w .more) s) (reached-more (planIn file) done item);
+      }
+
+  -- all is said
+  goes-silence : {done left : List Item} (run : Run) → At file done left run → (isCut (run .phase) ≡ false → left ≡ []) → Goes file none done (silence run)
+  unfolding silence EachSaid reported deedsFrom
+  goes-silence {done} {left} run a w =
+      record {
+        way = record { more = []; all = done; left = left; sum = sym (append-nil done); ends = a; whole = w };
+        each = tt;
+        lines = λ lock. refl;
+      }
+
+  -- the lines of the end
+  goes-closing : {done left : List Item} (n : ℕ) (run : Run) → At file done left run → (isCut (run .phase) ≡ false → left ≡ []) → Goes file none done (closing n run)
+  unfolding closing past allSaid
+  goes-closing zero run a w =
+      let b = at-same (allSaid run) refl a in
+      goes-says none none (lastLine run) run (allSaid run) (standing a) (standing b) (λ lock. last-reports _ lock run) (goes-silence (allSaid run) b w)
+  goes-closing (suc n) run a w =
+      let b = at-same (past run) refl a in
+      goes-says none none (lockLine run) run (past run) (standing a) (standing b) (λ lock. lock-reports _ lock run) (goes-closing n (past run) b w)
+
+  -- a node's event, told or not
+  goes-event : (test : Bool) (toTell : ℕ → List Deed) {done left : List Item} (run : Run) {c : Course} → isEvent (eventHere run) ≡ test → At file done left run
+      → Goes file toTell done c
+      → Goes file (λ lock. deedOf (planIn file .rules) lock (run .next + 1) (eventHere run) ++ toTell lock) done (cond test (says (eventLine run) run (past run) c) c)
+  unfolding past
+  goes-event true toTell run e a g =
+      goes-says (λ lock. deedOf (planIn file .rules) lock (run .next + 1) (eventHere run)) toTell (eventLine run) run (past run)
+      (standing a) (standing (at-same (past run) refl a)) (λ lock. event-reports _ lock run) g
+  goes-event false toTell run e a g =
+      goes-same toTell _ (λ lock. ap (λ (deeds : List Deed). deeds ++ toTell lock) (sym (no-event _ lock (run .next + 1) (eventHere run) e))) g
+
+  -- the events of so many nodes from the next on
+  pub goes-telling : {done left : List Item} (n : ℕ) (run : Run) (then : Run → Course) → At file done left run
+      → ((next : ℕ) → Goes file none done (then (withNext run next)))
+      → Goes file (λ lock. tells (planIn file .rules) lock (run .events) (run .next) n) done (telling n run then)
+  unfolding telling tells past eventHere
+  goes-telling zero run then a g = g (run .next)
+  goes-telling (suc n) run then a g =
+      goes-event (isEvent (eventHere run)) _ run refl a (goes-telling n (past run) then (at-same (past run) refl a) g)
+
+module _ (file : List ℕ) (r : inRange (planIn file) ≡ true) where
+  -- a step, and what it has done
+  step-stands : {done left : List Item} (run : Run) → At file done (step ∷ left) run → At file (done ++ (step ∷ [])) left (oneStep run)
+  unfolding oneStep reachedNext afterItem
+  step-stands {done} {left} run a =
+      record {
+        split = a .split ∙ sym (append-snoc done step left);
+        state = ap (λ (s : State). steppingSound s .state) (a .state) ∙ ap (λ (t : StepTold). t .state) (step-reached (planIn file) r done)
+          ∙ sym (reached-more (planIn file) done step);
+        steps = ap (λ (n : ℕ). n + 1) (a .steps) ∙ add-one (stepsAmong done) ∙ sym (among-step done);
+      }
+
+  -- its events are what it does
+  step-tells : {done left : List Item} (run : Run) → At file done (step ∷ left) run → (lock : ℕ)
+      → tells (planIn file .rules) lock (oneStep run .events) 0 (nodesOf (oneStep run) - 0) ≡ deedsOf lock step (reached (planIn file) done)
+  unfolding oneStep nodesOf deedsOf
+  step-tells {done} run a lock =
+      let s = reached (planIn file) done in
+      let now : List Happening = stepping s .events in
+      let rules = planIn file .rules in
+      let same : steppingSound (run .reached .state) ≡ stepping s = ap steppingSound (a .state) ∙ step-reached (planIn file) r done in
+      let count : nodesOf (oneStep run) ≡ nodeCount (s .plan) = step-nodes run ∙ ap (λ (t : State). nodeCount (t .plan)) (a .state) in
+      let nodes : nodesOf (oneStep run) - 0 ≡ nodeCount (s .plan) = omega (arith, count) in
+      ap (λ (t : StepTold). tells rules lock (t .events) 0 (nodesOf (oneStep run) - 0)) same
+      ∙ ap (tells rules lock now 0) nodes
+      ∙ tells-all rules lock now (nodeCount (s .plan))
+      ∙ ap (λ (p : Plan). deedsIn (p .rules) lock now (nodeCount (s .plan))) (sym (plan-reached (planIn file) r done))
+
+  -- an action, and what it has done
+  act-stands : {done left : List Item} (action : Action) (node lock : ℕ) (run : Run) → At file done (act action node lock ∷ left) run
+      → At file (done ++ (act action node lock ∷ [])) left (actionItem action node lock run)
+  unfolding actionItem afterItem
+  act-stands {done} {left} action node lock run a =
+      record {
+        split = a .split ∙ sym (append-snoc done (act action node lock) left);
+        state = ap (λ (s : State). actingSound action s node lock .state) (a .state) ∙ ap (λ (t : Told). t .state) (act-reached (planIn file) r done action node lock)
+          ∙ sym (reached-more (planIn file) done (act action node lock));
+        steps = a .steps ∙ sym (among-act done action node lock);
+      }
+
+  -- and its line reports what it does
+  act-tells : {done left : List Item} (action : Action) (node own : ℕ) (run : Run) → At file done (act action node own ∷ left) run → (lock : ℕ)
+      → reports (planIn file .rules) lock (actionLine action node own run) ≡ deedsOf lock (act action node own) (reached (planIn file) done)
+  act-tells {done} action node own run a lock =
+      let same : run .reached .state .plan ≡ planIn file = ap (λ (t : State). t .plan) (a .state) ∙ plan-reached (planIn file) r done in
+      let sound : actingSound action (run .reached .state) node own ≡ acting action (run .reached .state) node own =
+        subst (λ (t : State). actingSound action t node own ≡ acting action t node own) (sym (a .state)) (act-reached (planIn file) r done action node own) in
+      ap (λ (p : Plan). reports (p .rules) lock (actionLine action node own run)) (sym same)
+      ∙ action-reports action node own lock run sound
+      ∙ ap (deedsOf lock (act action node own)) (a .state)
+
+  module _ (ceiling : ℕ) where
+    -- a step and then the rest, or the end before it
+    goes-step : {done left : List Item} (room : Bool) (run : Run) (then : Run → Course) → At file done (step ∷ left) run
+        → ((next : Run) → At file (done ++ (step ∷ [])) left next → Goes file none (done ++ (step ∷ [])) (then next))
+        → Goes file none done (cond room (tellingAll (oneStep run) then) (closingAll (atEnd Cut run)))
+    unfolding tellingAll closingAll isCut atEnd oneStep
+    goes-step true run then a again =
+        let b = step-stands run a in
+        goes-item step (goes-same _ _ (step-tells run a) (goes-telling _ (oneStep run) then b (λ next. again (withNext (oneStep run) next) (at-same _ refl b))))
+    goes-step false run then a again = goes-closing _ (atEnd Cut run) (at-same _ refl a) (λ e. absurd (true≢false e))
+
+    -- so many steps, and then the rest
+    goes-steps : {done left : List Item} (n : ℕ) (run : Run) (then : Run → Course) → At file done (itemSteps n left) run
+        → ((next : Run) (d : List Item) → At file d left next → Goes file none d (then next)) → Goes file none done (manySteps ceiling n run then)
+    unfolding manySteps itemSteps
+    goes-steps {done} zero run then a again = again run done a
+    goes-steps (suc n) run then a again =
+        goes-step (ltb (run .reached .steps) ceiling) run (λ next. manySteps ceiling n next then) a (λ next b. goes-steps n next then b again)
+
+    -- all items
+    pub goes-items : {done : List Item} (l : List FileItem) (run : Run) → At file done (asItems l) run → Goes file none done (items ceiling l run)
+    unfolding items asItems closingAll atEnd stepsItem
+    goes-items [] run a = goes-closing _ (atEnd Ended run) (at-same _ refl a) (λ e. refl)
+    goes-items (Steps n ∷ rest) run a =
+        goes-steps n (stepsItem n run) (items ceiling rest) (at-same _ refl a) (λ next d b. goes-items rest next b)
+    goes-items (Act action node lock ∷ rest) run a =
+        let b = act-stands action node lock run a in
+        goes-item (act action node lock) (goes-same _ _ (λ own. append-nil _)
+        (goes-says _ none (actionLine action node lock run) run (actionItem action node lock run) (standing a) (standing b) (act-tells action node lock run a)
+        (goes-items rest (actionItem action node lock run) b)))

@@ -1,0 +1,155 @@
+-- What the lines of a step and of an action report of a lock is what the step and the action do to it; the other lines report nothing.
+use Prim.Native.Nat.{ℕ, zero, suc, _+_}
+use mathlib.Core.Path.{_≡_, refl, _∙_, ap, sym}
+use mathlib.Core.Bool.{Bool, true, false, cond, not, _&&_, and-true, and-false, true≢false}
+use mathlib.Core.List.{List, [], _∷_, _++_, append-nil, append-assoc}
+use native.Mathlib.Numerals.{add-one}
+use native.Mathlib.Omega.{arith}
+use lib.Dec.{eqb}
+use lib.ListN.{getD, replicate}
+use Rattle.cars.specs.Cars.{multiring}
+use Rattle.acts.specs.declared.Action.{Action}
+use Rattle.acts.specs.declared.Action.the-variants.{Take, Release, Force}
+use Rattle.usernode.specs.declared.Event.{Event}
+use Rattle.usernode.specs.declared.Event.the-variants.{Nothing, Granted, Failed, Lost, Back, Sent}
+use Rattle.usernode.specs.Turn.{eventLetter, eventLock}
+use Rattle.ring.specs.declared.State.{State}
+use Rattle.ring.specs.declared.Happening.{Happening}
+use Rattle.ring.specs.State.{Told}
+use Rattle.ring.specs.Actions.{acting, actingSound}
+use Rattle.ring.specs.Walk.{quiet}
+use Rattle.run.specs.declared.Run.{Run}
+use Rattle.run.specs.declared.Phase.{Phase}
+use Rattle.run.specs.declared.Phase.the-variants.{Items, Ended, Cut, Refused}
+use Rattle.run.specs.Wording.{lineOf, eventHere, isEvent, eventLine, actionLetter, actionRefusal, actionLine, endLetter, lockLine, lastLine}
+use Rattle.onelock.specs.OneLock.{Item, act, afterItem, Deed, ended, deedIf, deedOf, deedsIn, deedsOf, releases, Time, Moment, timeOf, doneAfter, noted, historyFrom}
+use Rattle.nightlock.specs.NightLock.{reports, deedsOfAll}
+
+-- the deeds of a schedule from a state on, without their times
+unfoldable pub deedsFrom : ℕ → List Item → State → List Deed
+deedsFrom lock [] state = []
+deedsFrom lock (item ∷ items) state = deedsOf lock item state ++ deedsFrom lock items (afterItem item state)
+
+-- a moment that is left out has no deed
+deeds-noted : (time : Time) (deeds : List Deed) (later : List Moment) → deedsOfAll (noted time deeds later) ≡ deeds ++ deedsOfAll later
+unfolding deedsOfAll noted
+deeds-noted time [] later = refl
+deeds-noted time (deed ∷ deeds) later = refl
+
+-- they are those of the history
+pub deeds-history : (lock : ℕ) (items : List Item) (done : ℕ) (state : State) → deedsOfAll (historyFrom lock items done state) ≡ deedsFrom lock items state
+unfolding deedsOfAll historyFrom deedsFrom
+deeds-history lock [] done state = refl
+deeds-history lock (item ∷ items) done state =
+    deeds-noted (timeOf item done) (deedsOf lock item state) _
+    ∙ ap (λ (later : List Deed). deedsOf lock item state ++ later) (deeds-history lock items (doneAfter item done) (afterItem item state))
+
+-- the deeds of so many nodes from a place on
+unfoldable pub tells : ℕ → ℕ → List Happening → ℕ → ℕ → List Deed
+tells rules lock events next zero = []
+tells rules lock events next (suc n) = deedOf rules lock (next + 1) (getD events next quiet .event) ++ tells rules lock events (next + 1) n
+
+-- those of the first nodes and those of the next are those of all
+deeds-more : (rules lock : ℕ) (events : List Happening) (n : ℕ)
+    → deedsIn rules lock events (n + 1) ≡ deedsIn rules lock events n ++ deedOf rules lock (n + 1) (getD events n quiet .event)
+unfolding deedsIn
+deeds-more rules lock events n = rw add-one
+
+tells-more : (rules lock : ℕ) (events : List Happening) (next n all : ℕ) → all ≡ next + n
+    → deedsIn rules lock events next ++ tells rules lock events next n ≡ deedsIn rules lock events all
+unfolding tells
+tells-more rules lock events next zero all e =
+    let none : next ≡ all = omega arith in
+    append-nil (deedsIn rules lock events next) ∙ ap (deedsIn rules lock events) none
+tells-more rules lock events next (suc n) all e =
+    let one : all ≡ next + 1 + n = omega arith in
+    sym (append-assoc (deedsIn rules lock events next) _ _)
+    ∙ ap (λ (first : List Deed). first ++ tells rules lock events (next + 1) n) (sym (deeds-more rules lock events next))
+    ∙ tells-more rules lock events (next + 1) n all one
+
+pub tells-all : (rules lock : ℕ) (events : List Happening) (n : ℕ) → tells rules lock events 0 n ≡ deedsIn rules lock events n
+unfolding deedsIn
+tells-all rules lock events n = let all : n ≡ 0 + n = omega arith in tells-more rules lock events 0 n n all
+
+-- where nothing happens there are none
+quiet-here : (n k : ℕ) → getD (replicate n quiet) k quiet ≡ quiet
+quiet-here zero k = refl
+quiet-here (suc n) zero = refl
+quiet-here (suc n) (suc k) = quiet-here n k
+
+pub tells-none : (rules lock places next n : ℕ) → tells rules lock (replicate places quiet) next n ≡ []
+unfolding tells deedOf quiet
+tells-none rules lock places next zero = refl
+tells-none rules lock places next (suc n) =
+    ap (λ (h : Happening). deedOf rules lock (next + 1) (h .event) ++ tells rules lock (replicate places quiet) (next + 1) n) (quiet-here places next)
+    ∙ tells-none rules lock places (next + 1) n
+
+-- an event's line reports its deed
+line-deed : (rules lock steps node : ℕ) (event : Event)
+    → reports rules lock (record { steps = steps; letter = eventLetter event; first = node; second = eventLock event }) ≡ deedOf rules lock node event
+unfolding reports deedOf eventLetter eventLock
+line-deed rules lock steps node Nothing = refl
+line-deed rules lock steps node (Granted own) = refl
+line-deed rules lock steps node (Failed own) = refl
+line-deed rules lock steps node (Lost own) = refl
+line-deed rules lock steps node (Back own) = refl
+line-deed rules lock steps node (Sent own) = refl
+
+pub event-reports : (rules lock : ℕ) (run : Run) → reports rules lock (eventLine run) ≡ deedOf rules lock (run .next + 1) (eventHere run)
+unfolding eventLine lineOf
+event-reports rules lock run = line-deed rules lock (run .reached .steps) (run .next + 1) (eventHere run)
+
+-- without a letter it is no grant and no ending
+pub no-event : (rules lock node : ℕ) (event : Event) → isEvent event ≡ false → deedOf rules lock node event ≡ []
+unfolding deedOf isEvent eventLetter
+no-event rules lock node Nothing e = refl
+no-event rules lock node (Granted own) e = absurd (true≢false e)
+no-event rules lock node (Failed own) e = refl
+no-event rules lock node (Lost own) e = absurd (true≢false e)
+no-event rules lock node (Back own) e = refl
+no-event rules lock node (Sent own) e = absurd (true≢false e)
+
+-- an action's line reports an ending where it is an accepted release under ring rules
+accepted-reports : (rules lock steps node own : ℕ) (action : Action)
+    → reports rules lock (record { steps = steps; letter = actionLetter action; first = node; second = own })
+    ≡ deedIf (releases action && not (multiring rules) && eqb own lock) (ended node)
+unfolding reports actionLetter releases deedIf
+accepted-reports rules lock steps node own Take = refl
+accepted-reports rules lock steps node own Release = refl
+accepted-reports rules lock steps node own Force = refl
+
+act-line : (rules lock node own : ℕ) (action : Action) (run : Run) (taken : Bool) (number place : ℕ)
+    → reports rules lock (cond taken (lineOf run (actionLetter action) node own) (lineOf run 88 number place))
+    ≡ deedIf (releases action && not (multiring rules) && eqb own lock && taken) (ended node)
+unfolding reports lineOf deedIf
+act-line rules lock node own action run true number place =
+    accepted-reports rules lock (run .reached .steps) node own action
+    ∙ ap (λ (test : Bool). deedIf test (ended node)) (sym (and-true (releases action && not (multiring rules) && eqb own lock)))
+act-line rules lock node own action run false number place =
+    ap (λ (test : Bool). deedIf test (ended node)) (sym (and-false (releases action && not (multiring rules) && eqb own lock)))
+
+pub action-reports : (action : Action) (node own lock : ℕ) (run : Run)
+    → actingSound action (run .reached .state) node own ≡ acting action (run .reached .state) node own
+    → reports (run .reached .state .plan .rules) lock (actionLine action node own run) ≡ deedsOf lock (act action node own) (run .reached .state)
+unfolding actionLine actionRefusal deedsOf
+action-reports action node own lock run e =
+    let rules = run .reached .state .plan .rules in
+    act-line rules lock node own action run (eqb (actingSound action (run .reached .state) node own .number) 0) _ _
+    ∙ ap (λ (t : Told). deedIf (releases action && not (multiring rules) && eqb own lock && eqb (t .number) 0) (ended node)) e
+
+-- a lock's line and the last line report nothing
+pub lock-reports : (rules lock : ℕ) (run : Run) → reports rules lock (lockLine run) ≡ []
+unfolding reports lockLine lineOf
+lock-reports rules lock run = refl
+
+end-reports : (rules lock steps first second : ℕ) (phase : Phase)
+    → reports rules lock (record { steps = steps; letter = endLetter phase; first = first; second = second }) ≡ []
+unfolding reports endLetter
+end-reports rules lock steps first second Items = refl
+end-reports rules lock steps first second Ended = refl
+end-reports rules lock steps first second Cut = refl
+end-reports rules lock steps first second (Refused number) = refl
+
+pub last-reports : (rules lock : ℕ) (run : Run) → reports rules lock (lastLine run) ≡ []
+unfolding lastLine lineOf
+last-reports rules lock run = end-reports rules lock (run .reached .steps) _ _ (run .phase)

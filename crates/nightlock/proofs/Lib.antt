@@ -1,0 +1,4 @@
+pub mod Items
+pub mod Deeds
+pub mod Courses
+pub mod Corollaries

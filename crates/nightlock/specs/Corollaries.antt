@@ -1,0 +1,40 @@
+-- What demand 3 says of a night run, as sentences that proofs/ proves of every accepted file and every ceiling.
+use Prim.Native.Nat.{ℕ}
+use mathlib.Core.Path.{_≡_}
+use mathlib.Core.Bool.{false}
+use mathlib.Core.List.{List, [], _∷_, _++_}
+use Rattle.acts.specs.declared.Action.{Action}
+use Rattle.ring.specs.Step.{steppingSound}
+use Rattle.nightfile.specs.File.{fileNumber}
+use Rattle.run.specs.declared.Run.{Run}
+use Rattle.run.specs.Standing.{reachedNext, actionItem}
+use Rattle.run.specs.Outcomes.{fileCourse, fileOutcome}
+use Rattle.onelock.specs.OneLock.{Item, step, act, reached, history}
+use Rattle.nightlock.specs.NightLock.{planIn, Stands, EachSaid, reported, deedsOfAll}
+
+-- every state that the run passes through is a state of demand 3's statement
+abbrev pub EveryStateIsReached : Type 0
+EveryStateIsReached =
+    (ceiling : ℕ) (file : List ℕ) → fileNumber file ≡ 0 → EachSaid (λ said. Stands file (said .before) × Stands file (said .after)) (fileCourse ceiling file .lines)
+
+-- between its lines the run changes its state by its step and its actions only, and each of these is one item more: so what it passes through
+-- from one line to the next are such states too
+abbrev pub EachMoveIsAnItem : Type 0
+EachMoveIsAnItem =
+    (file : List ℕ) → fileNumber file ≡ 0 → (run : Run) (stands : Stands file run)
+    → (reachedNext (run .reached) .state ≡ reached (planIn file) (stands .done ++ (step ∷ [])))
+    × ((action : Action) (node lock : ℕ) → actionItem action node lock run .reached .state ≡ reached (planIn file) (stands .done ++ (act action node lock ∷ [])))
+
+-- no step of it is refused: the run's step is done in every such state
+abbrev pub NoStepRefused : Type 0
+NoStepRefused = (file : List ℕ) → fileNumber file ≡ 0 → (items : List Item) → steppingSound (reached (planIn file) items) .number ≡ 0
+
+-- the run ends where some first part of the items has brought it, all of them where it is not cut, and the grants and endings that its lines report
+-- of a lock are the lock's history over these items
+pub record Reported (ceiling : ℕ) (file : List ℕ) : Type 0 where
+  pub stands : Stands file (fileCourse ceiling file .end)
+  pub all : fileOutcome ceiling file .cut ≡ false → stands .left ≡ []
+  pub lines : (lock : ℕ) → reported (planIn file .rules) lock (fileCourse ceiling file .lines) ≡ deedsOfAll (history (planIn file) (stands .done) lock)
+
+abbrev pub TheLinesAreTheHistory : Type 0
+TheLinesAreTheHistory = (ceiling : ℕ) (file : List ℕ) → fileNumber file ≡ 0 → Reported ceiling file

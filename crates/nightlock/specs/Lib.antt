@@ -1,0 +1,2 @@
+pub mod NightLock
+pub mod Corollaries

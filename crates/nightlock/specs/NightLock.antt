@@ -1,0 +1,67 @@
+-- A night run seen as a schedule of demand 3: the items of its file, the state where it stands, and the grants and endings that its lines report.
+use Prim.Native.Nat.{ℕ, zero, suc}
+use mathlib.Core.Path.{_≡_}
+use mathlib.Core.Bool.{cond, not, _&&_}
+use mathlib.Core.List.{List, [], _∷_, _++_}
+use lib.Dec.{eqb}
+use Rattle.cars.specs.Cars.{multiring}
+use Rattle.plan.specs.declared.Plan.{Plan}
+use Rattle.nightfile.specs.declared.Item.{Item as FileItem}
+use Rattle.nightfile.specs.declared.Item.the-variants.{Steps, Act}
+use Rattle.nightfile.specs.File.{planPart, schedulePart, planOf}
+use Rattle.run.specs.declared.Run.{Run}
+use Rattle.run.specs.declared.Line.{Line}
+use Rattle.run.specs.Whole.{Said, itemsFrom}
+use Rattle.onelock.specs.OneLock.{Item, step, act, reached, Deed, granted, ended, deedIf, Moment}
+
+-- the plan of a file, and its items as a schedule: an item of so many steps is so many steps
+unfoldable pub planIn : List ℕ → Plan
+planIn file = planOf (planPart file)
+
+unfoldable pub manySteps : ℕ → List Item → List Item
+manySteps zero rest = rest
+manySteps (suc n) rest = step ∷ manySteps n rest
+
+unfoldable pub asItems : List FileItem → List Item
+asItems [] = []
+asItems (Steps n ∷ rest) = manySteps n (asItems rest)
+asItems (Act action node lock ∷ rest) = act action node lock ∷ asItems rest
+
+unfoldable pub itemsIn : List ℕ → List Item
+itemsIn file = asItems (itemsFrom (schedulePart file) 0)
+
+-- how many of the items are steps
+unfoldable pub stepsAmong : List Item → ℕ
+stepsAmong [] = 0
+stepsAmong (step ∷ rest) = suc (stepsAmong rest)
+stepsAmong (act action node lock ∷ rest) = stepsAmong rest
+
+-- a run stands where a first part of its file's items has brought the start state of its file's plan
+pub record Stands (file : List ℕ) (run : Run) : Type 0 where
+  pub done : List Item
+  pub left : List Item
+  pub split : itemsIn file ≡ done ++ left
+  pub state : run .reached .state ≡ reached (planIn file) done
+  pub steps : run .reached .steps ≡ stepsAmong done
+
+-- it holds of each line that is said
+unfoldable pub EachSaid : (Said → Type 0) → List Said → Type 0
+EachSaid P [] = Unit
+EachSaid P (said ∷ rest) = P said × EachSaid P rest
+
+-- what a line reports of a lock: G is a grant; R and L are endings under ring rules, D is one under multiring rules
+unfoldable pub reports : ℕ → ℕ → Line → List Deed
+reports rules lock line =
+    cond (eqb (line .letter) 71) (deedIf (eqb (line .second) lock) (granted (line .first)))
+    (cond (eqb (line .letter) 82) (deedIf (not (multiring rules) && eqb (line .second) lock) (ended (line .first)))
+    (cond (eqb (line .letter) 76) (deedIf (not (multiring rules) && eqb (line .second) lock) (ended (line .first)))
+    (cond (eqb (line .letter) 68) (deedIf (multiring rules && eqb (line .second) lock) (ended (line .first))) [])))
+
+unfoldable pub reported : ℕ → ℕ → List Said → List Deed
+reported rules lock [] = []
+reported rules lock (said ∷ rest) = reports rules lock (said .line) ++ reported rules lock rest
+
+-- the deeds of a history, in order
+unfoldable pub deedsOfAll : List Moment → List Deed
+deedsOfAll [] = []
+deedsOfAll (moment ∷ rest) = moment .deeds ++ deedsOfAll rest

@@ -1,0 +1,1 @@
+// No code: demand 3 of what the night program reports.
