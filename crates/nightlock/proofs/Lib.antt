@@ -2,3 +2,4 @@ pub mod Items
 pub mod Deeds
 pub mod Courses
 pub mod Corollaries
+pub mod AllItems

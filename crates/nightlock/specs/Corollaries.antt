@@ -1,16 +1,22 @@
 -- What demand 3 says of a night run, as sentences that proofs/ proves of every accepted file and every ceiling.
-use Prim.Native.Nat.{ℕ}
+use Prim.Native.Nat.{ℕ, _/_}
 use mathlib.Core.Path.{_≡_}
 use mathlib.Core.Bool.{false}
 use mathlib.Core.List.{List, [], _∷_, _++_}
+use lib.ListN.{length}
 use Rattle.acts.specs.declared.Action.{Action}
 use Rattle.ring.specs.Step.{steppingSound}
-use Rattle.nightfile.specs.File.{fileNumber}
+use Rattle.nightfile.specs.File.{fileNumber, schedulePart}
 use Rattle.run.specs.declared.Run.{Run}
 use Rattle.run.specs.Standing.{reachedNext, actionItem}
+use Rattle.run.specs.Whole.{itemsFrom}
 use Rattle.run.specs.Outcomes.{fileCourse, fileOutcome}
 use Rattle.onelock.specs.OneLock.{Item, step, act, reached, history}
-use Rattle.nightlock.specs.NightLock.{planIn, Stands, EachSaid, reported, deedsOfAll}
+use Rattle.nightlock.specs.NightLock.{planIn, itemsOf, Stands, EachSaid, reported, deedsOfAll}
+
+-- the items that a run goes by are all items of its schedule, also those whose steps are summed
+abbrev pub AllItems : Type 0
+AllItems = (file : List ℕ) → itemsFrom (schedulePart file) 0 ≡ itemsOf (schedulePart file) 0 (length (schedulePart file) / 3)
 
 -- every state that the run passes through is a state of demand 3's statement
 abbrev pub EveryStateIsReached : Type 0

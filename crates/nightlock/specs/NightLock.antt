@@ -1,5 +1,5 @@
 -- A night run seen as a schedule of demand 3: the items of its file, the state where it stands, and the grants and endings that its lines report.
-use Prim.Native.Nat.{ℕ, zero, suc}
+use Prim.Native.Nat.{ℕ, zero, suc, _*_}
 use mathlib.Core.Path.{_≡_}
 use mathlib.Core.Bool.{cond, not, _&&_}
 use mathlib.Core.List.{List, [], _∷_, _++_}
@@ -9,6 +9,7 @@ use Rattle.plan.specs.declared.Plan.{Plan}
 use Rattle.nightfile.specs.declared.Item.{Item as FileItem}
 use Rattle.nightfile.specs.declared.Item.the-variants.{Steps, Act}
 use Rattle.nightfile.specs.File.{planPart, schedulePart, planOf}
+use Rattle.nightfile.specs.Items.{itemOf}
 use Rattle.run.specs.declared.Run.{Run}
 use Rattle.run.specs.declared.Line.{Line}
 use Rattle.run.specs.Whole.{Said, itemsFrom}
@@ -29,6 +30,11 @@ asItems (Act action node lock ∷ rest) = act action node lock ∷ asItems rest
 
 unfoldable pub itemsIn : List ℕ → List Item
 itemsIn file = asItems (itemsFrom (schedulePart file) 0)
+
+-- the items of a schedule's bytes, three bytes each: so many from the k-th on
+unfoldable pub itemsOf : List ℕ → ℕ → ℕ → List FileItem
+itemsOf schedule k zero = []
+itemsOf schedule k (suc n) = itemOf schedule (3 * k) ∷ itemsOf schedule (suc k) n
 
 -- how many of the items are steps
 unfoldable pub stepsAmong : List Item → ℕ
