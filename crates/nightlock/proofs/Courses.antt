@@ -28,7 +28,7 @@ use Rattle.run.specs.Whole.{Said, Course, says, silence, telling, tellingAll, c
 use Rattle.run.specs.Outcomes.{isCut}
 use Rattle.run.proofs.Moves.{withNext, step-nodes}
 use Rattle.onelock.specs.OneLock.{Item, step, act, afterItem, reached, Deed, deedOf, deedsOf, deedsIn}
-use Rattle.onelock.proofs.Reached.{plan-reached}
+use Rattle.onelock.proofs.Run.Reached.{plan-reached}
 use Rattle.nightlock.specs.NightLock.{planIn, manySteps as itemSteps, asItems, itemsIn, stepsAmong, Stands, EachSaid, reports, reported}
 use Rattle.nightlock.proofs.Items.{step-reached, act-reached, reached-more, among-step, among-act}
 use Rattle.nightlock.proofs.Deeds.{deedsFrom, tells, tells-all, event-reports, no-event, action-reports, lock-reports, last-reports}

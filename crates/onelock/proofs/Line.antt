@@ -1,52 +1,11 @@
--- A ring as a line: what stands on it from one place to the zero node, a junction with its subring's line. Every node and junction
--- takes its turn by the model's own rules; junctions may stand in subrings.
-use Prim.Native.Nat.{ℕ, suc, _+_}
-use mathlib.Core.Bool.{Bool, false, cond, _||_}
-use lib.Dec.{eqb}
-use Rattle.cars.specs.declared.Car.{Car}
-use Rattle.usernode.specs.declared.Node.{Node}
-use Rattle.usernode.specs.declared.Turn.{Turn}
-use Rattle.usernode.specs.Node.{wantsTrain}
-use Rattle.usernode.specs.Turn.{turn}
-use Rattle.junction.specs.declared.Junction.{Junction}
-use Rattle.junction.specs.Turn.{junctionTurn}
-
-pub data Line : Type 0 where
-  end : Line
-  user : Node → Line → Line
-  junction : Junction → Line → Line → Line
-
--- its user nodes; they are numbered on from a number k: k + 1, k + 2, ..
-abbrev pub size : Line → ℕ
-size end = 0
-size (user u r) = suc (size r)
-size (junction j s r) = size s + size r
-
--- the car that its last sender sends; where it is empty, the car that comes to it
-abbrev pub out : Car → Line → Car
-out a end = a
-out a (user u r) = out (u .car) r
-out a (junction j s r) = out (j .main) r
-
--- some node of it wants a train
-abbrev pub wanting : Line → Bool
-wanting end = false
-wanting (user u r) = wantsTrain u || wanting r
-wanting (junction j s r) = wanting s || wanting r
-
--- one step, a car coming to it: each takes the car that was sent before it
-abbrev pub stepLine : ℕ → ℕ → Car → Line → Line
-stepLine m k a end = end
-stepLine m k a (user u r) = user (turn m (suc k) a u .node) (stepLine m (suc k) (u .car) r)
-stepLine m k a (junction j s r) =
-    junction (junctionTurn k (k + size s) (wanting s) a (out (j .subring) s) j) (stepLine m k (j .subring) s)
-    (stepLine m (k + size s) (j .main) r)
-
--- the nodes by their numbers, one of them put anew, and all of a line put anew
-abbrev pub put : (ℕ → Node) → ℕ → Node → ℕ → Node
-put A q u i = cond (eqb i q) u (A i)
-
-abbrev pub view : ℕ → Line → (ℕ → Node) → ℕ → Node
-view k end A = A
-view k (user u r) A = put (view (suc k) r A) (suc k) u
-view k (junction j s r) A = view k s (view (k + size s) r A)
+-- A ring as a line of nodes and junctions, and where the train is on it.
+-- Ring: the definitions and one step. Numbers, Meets: a line's nodes by their numbers, and with the cars that come to them. Phases, PhaseLaws:
+-- before, in and after the train. Fit, FitLaws: a line that fits, which has the train's shape, flags, shadows and tours, and the cells that it has
+-- on the train.
+pub mod Ring
+pub mod Numbers
+pub mod Meets
+pub mod Phases
+pub mod PhaseLaws
+pub mod Fit
+pub mod FitLaws

@@ -7,15 +7,17 @@ use Rattle.plan.specs.declared.Plan.{Plan}
 use Rattle.plan.specs.Plan.{valueAt, nodeCount}
 use Rattle.ring.specs.Step.{StepTold, done}
 use Rattle.onelock.specs.OneLock.{reached}
-use Rattle.onelock.proofs.Moments.{numbered, one-deed, agrees-sound, holder-has, has-holder}
-use Rattle.onelock.proofs.Reached.{step-done, act-number, number-small, kept-reached, good-reached, plan-reached}
-use Rattle.onelock.proofs.Items.{item-tells}
-use Rattle.onelock.proofs.Histories.{agrees}
+use Rattle.onelock.proofs.Line.Numbers.{numbered}
+use Rattle.onelock.proofs.Run.Moments.{one-deed, follows-sound, holder-has, has-holder}
+use Rattle.onelock.proofs.Run.Reached.{step-done, act-number, number-small, kept-reached, good-reached, plan-reached}
+use Rattle.onelock.proofs.Run.Items.{item-tells}
+use Rattle.onelock.proofs.Run.Histories.{follows}
 
 -- A
 pub one-plain-lock : OnePlainLock
-one-plain-lock plan r items lock = agrees-sound (agrees plan r items lock)
+one-plain-lock plan r items lock = follows-sound (follows plan r items lock)
 
+-- A, its strong form
 pub one-deed-at-a-time : OneDeedAtATime
 one-deed-at-a-time plan r items item lock = one-deed (item-tells item lock (reached plan items) (kept-reached plan r items))
 
@@ -31,18 +33,21 @@ pub never-stuck : NeverStuck
 unfolding done
 never-stuck plan r items = ap (λ (t : StepTold). t .number) (step-done (reached plan items) (good-reached plan r items))
 
+-- C, of 13 to an action
 pub never-bad-state : NeverBadState
 never-bad-state plan r items action node lock e =
     let s = reached plan items in
     omega (arith, number-small action s node lock, act-number action s node lock (good-reached plan r items))
 
+-- C, of the queue
 pub short-queue : ShortQueue
 short-queue plan r items =
     subst (λ p. reached plan items .zeroth .count ≤ nodeCount p + 1) (plan-reached plan r items) (good-reached plan r items .short)
 
 -- D
 pub the-holder-has-it : TheHolderHasIt
-the-holder-has-it plan r items node lock n e = holder-has (agrees plan r items lock) e
+the-holder-has-it plan r items node lock e = holder-has (follows plan r items lock) e
 
+-- D, the other way
 pub only-the-holder-has-it : OnlyTheHolderHasIt
-only-the-holder-has-it plan r items node lock n h = has-holder (agrees plan r items lock) (numbered (nodeCount plan) node n) h
+only-the-holder-has-it plan r items node lock n h = has-holder (follows plan r items lock) (numbered (nodeCount plan) node n) h

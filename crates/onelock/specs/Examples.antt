@@ -1,10 +1,9 @@
 -- A ring that never grants would keep demand 3: for each rule book a schedule in which a lock is granted to two nodes, an ending between them.
-use Prim.Native.Nat.{ℕ}
 use mathlib.Core.List.{List, [], _∷_, _++_}
 use lib.ListN.{replicate}
 use Rattle.plan.specs.declared.Plan.{Plan}
 use Rattle.acts.specs.declared.Action.the-variants.{Take, Release, Force}
-use Rattle.onelock.specs.OneLock.{Item, step, act, Deed, granted, ended, Time, inStep, afterStep, Moment}
+use Rattle.onelock.specs.OneLock.{Item, step, act, granted, ended, inStep, afterStep, Moment}
 
 -- ring rules, two nodes: node 1 asks and releases, then node 2 asks
 unfoldable pub ringPlan : Plan

@@ -1,16 +1,13 @@
--- Demand 3 in the client's words: "Take any accepted plan and any schedule from the start state, refused items among it, with nobody
--- editing the state between calls." What is proved of it stands at the end, as four sentences A to D.
-use Prim.Native.Nat.{ℕ, zero, suc, _+_, _≤_}
-use mathlib.Core.Path.{_≡_}
+-- Demand 3: "Take any accepted plan and any schedule from the start state, refused items among it, with nobody editing the state between calls."
+use Prim.Native.Nat.{ℕ, zero, suc, _+_}
 use mathlib.Core.Bool.{Bool, true, false, cond, not, _&&_}
 use mathlib.Core.List.{List, [], _∷_, _++_}
 use lib.Dec.{eqb}
 use lib.ListN.{getD}
 use Rattle.lists.specs.Loops.{some}
-use Rattle.words.specs.Words.{has}
-use Rattle.cars.specs.Cars.{multiring, isNode}
+use Rattle.cars.specs.Cars.{multiring}
 use Rattle.plan.specs.declared.Plan.{Plan}
-use Rattle.plan.specs.Plan.{valueAt, inRange, nodesBefore, junctionsBefore, nodeCount}
+use Rattle.plan.specs.Plan.{valueAt, nodesBefore, junctionsBefore, nodeCount}
 use Rattle.usernode.specs.declared.Event.{Event}
 use Rattle.usernode.specs.declared.Event.the-variants.{Nothing, Granted, Failed, Lost, Back, Sent}
 use Rattle.usernode.specs.Node.{had}
@@ -19,10 +16,10 @@ use Rattle.acts.specs.declared.Action.the-variants.{Take, Release, Force}
 use Rattle.junction.specs.declared.Junction.{Junction}
 use Rattle.ring.specs.declared.State.{State}
 use Rattle.ring.specs.declared.Happening.{Happening}
-use Rattle.ring.specs.State.{Told, restNode, restJunction, nodeOf, startOf}
+use Rattle.ring.specs.State.{restNode, restJunction, startOf}
 use Rattle.ring.specs.Actions.{acting}
 use Rattle.ring.specs.Walk.{quiet}
-use Rattle.ring.specs.Step.{StepTold, stepping}
+use Rattle.ring.specs.Step.{stepping}
 
 -- "any schedule": a list of steps and of actions of a node on a lock
 pub data Item : Type 0 where
@@ -80,7 +77,6 @@ deedsOf lock (act action node own) state =
 pub data Time : Type 0 where
   inStep : ℕ → Time
   afterStep : ℕ → Time
-
 pub record Moment : Type 0 where
   pub time : Time
   pub deeds : List Deed
@@ -151,5 +147,4 @@ unfoldable pub junctionAt : State → ℕ → Junction
 junctionAt state place = getD (state .junctions) (junctionsBefore (state .plan) place) restJunction
 
 unfoldable pub subringHas : State → ℕ → ℕ → Bool
-subringHas state place lock =
-    some (λ k. had (getD (state .nodes) (nodesBefore (state .plan) place + k) restNode) lock) (valueAt (state .plan) place)
+subringHas state place lock = some (λ k. had (getD (state .nodes) (nodesBefore (state .plan) place + k) restNode) lock) (valueAt (state .plan) place)

@@ -1,7 +1,7 @@
 -- Demand 3 as sentences: what proofs/ proves of every accepted plan and every schedule. The words are those of OneLock.
 use Prim.Native.Nat.{ℕ, _+_, _≤_, _<_}
 use mathlib.Core.Path.{_≡_}
-use mathlib.Core.Bool.{Bool, true, false}
+use mathlib.Core.Bool.{true, false}
 use mathlib.Core.List.{List}
 use lib.ListN.{length}
 use Rattle.words.specs.Words.{has}
@@ -10,18 +10,17 @@ use Rattle.plan.specs.declared.Plan.{Plan}
 use Rattle.plan.specs.Plan.{valueAt, inRange, nodeCount}
 use Rattle.usernode.specs.Node.{had}
 use Rattle.acts.specs.declared.Action.{Action}
-use Rattle.ring.specs.declared.State.{State}
-use Rattle.ring.specs.State.{Told, nodeOf}
+use Rattle.ring.specs.State.{nodeOf}
 use Rattle.ring.specs.Actions.{acting}
-use Rattle.ring.specs.Step.{StepTold, stepping}
-use Rattle.onelock.specs.OneLock.{Item, reached, deedsOf, history, Lock, heldBy, plain, isBroken, junctionAt, subringHas}
+use Rattle.ring.specs.Step.{stepping}
+use Rattle.onelock.specs.OneLock.{Item, reached, deedsOf, history, heldBy, plain, isBroken, junctionAt, subringHas}
 
 -- A. "For each lock, its grants and endings in order of time, two of one step in one of their two orders, are what one plain lock
 -- could give"
 abbrev pub OnePlainLock : Type 0
 OnePlainLock = (plan : Plan) → inRange plan ≡ true → (items : List Item) (lock : ℕ) → isBroken (plain (history plan items lock)) ≡ false
 
--- A, its strong form: in a step, and between two steps, a lock has at most one grant or ending
+-- A, its strong form: in a step, and in an action, a lock has at most one grant or ending
 abbrev pub OneDeedAtATime : Type 0
 OneDeedAtATime =
     (plan : Plan) → inRange plan ≡ true → (items : List Item) (item : Item) (lock : ℕ) → length (deedsOf lock item (reached plan items)) ≤ 1
@@ -48,7 +47,7 @@ ShortQueue = (plan : Plan) → inRange plan ≡ true → (items : List Item) →
 -- D. a node has a lock (holds it or is letting it go) exactly where it is the holder that the lock's history gives: so at most one node has it
 abbrev pub TheHolderHasIt : Type 0
 TheHolderHasIt =
-    (plan : Plan) → inRange plan ≡ true → (items : List Item) (node lock : ℕ) → isNode (nodeCount plan) node ≡ true
+    (plan : Plan) → inRange plan ≡ true → (items : List Item) (node lock : ℕ)
     → plain (history plan items lock) ≡ heldBy node → had (nodeOf (reached plan items) node) lock ≡ true
 
 abbrev pub OnlyTheHolderHasIt : Type 0
