@@ -75,5 +75,5 @@ the-lines-are-the-history ceiling file e =
       stands = standing (g .way .ends);
       all = g .way .whole;
       lines = λ lock. g .lines lock ∙ ap (λ (items : List Item). deedsFrom lock items (startOf plan)) (sym (g .way .sum))
-        ∙ sym (deeds-history lock (g .way .all) 0 (startOf plan));
+          ∙ sym (deeds-history lock (g .way .all) 0 (startOf plan));
     }

@@ -82,7 +82,7 @@ module _ {file : List ℕ} where
         way = g .way;
         each = ((b, a), g .each);
         lines = λ lock. ap (λ (now : List Deed). now ++ reported rules lock (c .lines)) (e lock)
-          ∙ ap (λ (rest : List Deed). first lock ++ rest) (g .lines lock) ∙ sym (append-assoc (first lock) (toTell lock) _);
+            ∙ ap (λ (rest : List Deed). first lock ++ rest) (g .lines lock) ∙ sym (append-assoc (first lock) (toTell lock) _);
       }
 
   -- what is to be told, said in another way
@@ -112,7 +112,7 @@ module _ {file : List ℕ} where
         };
         each = g .each;
         lines = λ lock. g .lines lock
-          ∙ ap (λ (s : State). deedsOf lock item (reached (planIn file) done) ++ deedsFrom lock (w .more) s) (reached-more (planIn file) done item);
+            ∙ ap (λ (s : State). deedsOf lock item (reached (planIn file) done) ++ deedsFrom lock (w .more) s) (reached-more (planIn file) done item);
       }
 
   -- all is said
@@ -163,7 +163,7 @@ module _ (file : List ℕ) (r : inRange (planIn file) ≡ true) where
       record {
         split = a .split ∙ sym (append-snoc done step left);
         state = ap (λ (s : State). steppingSound s .state) (a .state) ∙ ap (λ (t : StepTold). t .state) (step-reached (planIn file) r done)
-          ∙ sym (reached-more (planIn file) done step);
+            ∙ sym (reached-more (planIn file) done step);
         steps = ap (λ (n : ℕ). n + 1) (a .steps) ∙ add-one (stepsAmong done) ∙ sym (among-step done);
       }
 
@@ -191,7 +191,7 @@ module _ (file : List ℕ) (r : inRange (planIn file) ≡ true) where
       record {
         split = a .split ∙ sym (append-snoc done (act action node lock) left);
         state = ap (λ (s : State). actingSound action s node lock .state) (a .state) ∙ ap (λ (t : Told). t .state) (act-reached (planIn file) r done action node lock)
-          ∙ sym (reached-more (planIn file) done (act action node lock));
+            ∙ sym (reached-more (planIn file) done (act action node lock));
         steps = a .steps ∙ sym (among-act done action node lock);
       }
 
@@ -201,7 +201,7 @@ module _ (file : List ℕ) (r : inRange (planIn file) ≡ true) where
   act-tells {done} action node own run a lock =
       let same : run .reached .state .plan ≡ planIn file = ap (λ (t : State). t .plan) (a .state) ∙ plan-reached (planIn file) r done in
       let sound : actingSound action (run .reached .state) node own ≡ acting action (run .reached .state) node own =
-        subst (λ (t : State). actingSound action t node own ≡ acting action t node own) (sym (a .state)) (act-reached (planIn file) r done action node own) in
+      subst (λ (t : State). actingSound action t node own ≡ acting action t node own) (sym (a .state)) (act-reached (planIn file) r done action node own) in
       ap (λ (p : Plan). reports (p .rules) lock (actionLine action node own run)) (sym same)
       ∙ action-reports action node own lock run sound
       ∙ ap (deedsOf lock (act action node own)) (a .state)

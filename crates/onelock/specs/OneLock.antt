@@ -47,8 +47,7 @@ unfoldable pub deedIf : Bool → Deed → List Deed
 deedIf true deed = deed ∷ []
 deedIf false deed = []
 
--- "An ending is, under ring rules, the release or the force car's arrival at the holder; under multiring rules, the step in which the
--- holder's didv car goes on the train."
+-- endings: "the release or the force car's arrival at the holder"; "the step in which the holder's didv car goes on the train"
 unfoldable pub deedOf : ℕ → ℕ → ℕ → Event → List Deed
 deedOf rules lock node Nothing = []
 deedOf rules lock node (Granted own) = deedIf (eqb own lock) (granted node)
@@ -77,6 +76,7 @@ deedsOf lock (act action node own) state =
 pub data Time : Type 0 where
   inStep : ℕ → Time
   afterStep : ℕ → Time
+
 pub record Moment : Type 0 where
   pub time : Time
   pub deeds : List Deed

@@ -219,7 +219,7 @@ shaded (f-past {q = q} {w = w} {f = f} {k = k} {j = j} {s = s} {G = G} {H = H} t
     record {
       phase = behind .phase;
       bare = all-join (λ p c. ⊥) G _ (behind .bare)
-        (subst (λ p. Bare (cells p (k + size s) (j .main) ++ (gate k (k + size s) (j .word) ∷ H))) (sym e) (shaded inner refl .bare));
+          (subst (λ p. Bare (cells p (k + size s) (j .main) ++ (gate k (k + size s) (j .word) ∷ H))) (sym e) (shaded inner refl .bare));
     }
 shaded (f-tour tour live sub inner out main rest) e = absurd (live e)
 
@@ -250,7 +250,7 @@ quiet (f-past {p = p} {w = w} {f = f} {lo = lo} {hi = hi} {k = k} {j = j} {s = s
     record {
       phase = sender .phase;
       bare = all-join (λ p c. ⊥) G _ (behind .bare)
-        (all-join (λ p c. ⊥) (cells p (k + size s) (j .main)) _ (subst Bare (sym none) tt) (shaded inner refl .bare));
+          (all-join (λ p c. ⊥) (cells p (k + size s) (j .main)) _ (subst Bare (sym none) tt) (shaded inner refl .bare));
       ahead = λ w′. subst (λ C. Fit w′ lo hi before k (junction j s r) before (G ++ (C ++ (gate k (k + size s) (j .word) ∷ H)))) (sym none)
           (f-past tour train sub clean-sub inner (λ x. absurd (apart x)) (sender .ahead w′) (gap-clean lo hi before (j .main) (sender .idle))
           (behind .ahead w′));

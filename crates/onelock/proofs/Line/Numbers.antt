@@ -73,14 +73,16 @@ agrees-same A A′ k (junction j s r) e a =
 -- a line put anew agrees with it
 pub view-agrees : (A : ℕ → Node) (k : ℕ) (l : Line) → Agrees (view k l A) k l
 view-agrees A k end = tt
-view-agrees A k (user u r) =
-    (put-here (view (suc k) r A) (suc k) u,
-      agrees-same (view (suc k) r A) (view k (user u r) A) (suc k) r (λ i l h. put-there (view (suc k) r A) (suc k) u i (λ e. omega arith))
-      (view-agrees A (suc k) r))
-view-agrees A k (junction j s r) =
-    (view-agrees (view (k + size s) r A) k s,
-      agrees-same (view (k + size s) r A) (view k (junction j s r) A) (k + size s) r (λ i l h. view-high (view (k + size s) r A) k s i l)
-      (view-agrees A (k + size s) r))
+view-agrees A k (user u r) = (
+  put-here (view (suc k) r A) (suc k) u,
+  agrees-same (view (suc k) r A) (view k (user u r) A) (suc k) r (λ i l h. put-there (view (suc k) r A) (suc k) u i (λ e. omega arith))
+      (view-agrees A (suc k) r),
+)
+view-agrees A k (junction j s r) = (
+  view-agrees (view (k + size s) r A) k s,
+  agrees-same (view (k + size s) r A) (view k (junction j s r) A) (k + size s) r (λ i l h. view-high (view (k + size s) r A) k s i l)
+      (view-agrees A (k + size s) r),
+)
 
 -- what holds of each node of a line holds of the node of each of its numbers
 pub node-at : (P : Node → Type 0) (A : ℕ → Node) (q k : ℕ) (l : Line) → Agrees A k l → Nodes P l → k < q → q ≤ k + size l → P (A q)

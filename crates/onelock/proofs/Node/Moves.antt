@@ -49,24 +49,31 @@ gives-up n m T {A} {e} q own u v is small h active held letting mode i = go (mul
   where
     low : own < 64
     low = has-in 64 (u .held) own (small .held) h
+
     apart : Apart u
     apart = subst Apart is (i .apart q)
+
     was : (lock : ℕ) → had (A q) lock ≡ had u lock
     was lock = ap (λ (z : Node). had z lock) is
+
     like : (lock : ℕ) → had v lock ≡ had (becomes u Null Resting (withoutLock (u .held) own) (letGo m (u .letting) own)) lock
     like lock = ap₂ (λ (x y : ℕ). has x lock || has y lock) held letting
+
     words : (lock : ℕ) → has (v .held) lock ≡ true → has (v .letting) lock ≡ false
     words = subst₂ (λ (x y : ℕ). (lock : ℕ) → has x lock ≡ true → has y lock ≡ false) (sym held) (sym letting) (moved-words u Null Resting own low m apart)
+
     serves : Serves n q v T
     serves = all-map T (λ p c ok act r. active ∙ ap (λ (z : Node). z .activity) (sym is) ∙ ok .waits act q r) (i .all)
+
     -- where v has no lock that u had not, it keeps apart
     keeps : ((lock : ℕ) → had v lock ≡ true → had u lock ≡ true) → Apart v
     keeps less =
         record {
           words = words;
           wish = λ lock w. by-value (λ b. b ≡ false) (had v lock)
-            (λ e. absurd (true≢false (sym (less lock e) ∙ apart .wish lock (subst (λ z. Names z lock) active w)))) (λ e. refl);
+              (λ e. absurd (true≢false (sym (less lock e) ∙ apart .wish lock (subst (λ z. Names z lock) active w)))) (λ e. refl);
         }
+
     go : (b : Bool) → multiring m ≡ b → Inv n e T (put A q v)
     go true multi =
         let same : (lock : ℕ) → had v lock ≡ had u lock = λ lock. like lock ∙ moved-same u Null Resting own low m multi h lock in
@@ -113,8 +120,8 @@ module _ {n : ℕ} {X Y : List Cell} {A : ℕ → Node} {k : ℕ} {u : Node} (x 
   pass-on a other free ok =
       goes-past n A k (suc k) (omega arith) (x .top) a (λ act s r low high. other act (r ∙ ap (asks act) (omega arith))) (ok .note)
       (λ t r q low high g.
-        let here : q ≡ suc k = omega arith in
-        true≢false (sym g ∙ ap (λ (i : ℕ). had (A i) (t .lock)) here ∙ ap (λ (z : Node). had z (t .lock)) (x .is) ∙ free t r))
+      let here : q ≡ suc k = omega arith in
+      true≢false (sym g ∙ ap (λ (i : ℕ). had (A i) (t .lock)) here ∙ ap (λ (z : Node). had z (t .lock)) (x .is) ∙ free t r))
 
   -- a reqp that the node fails
   pub fail-on : (t : Tag) → (t .source ≡ suc k → ⊥) → Goes n A k (Reqp t) (suc k) (Failp t)
@@ -173,7 +180,7 @@ module _ {n : ℕ} {X Y : List Cell} {A : ℕ → Node} {k : ℕ} {u : Node} (x 
   -- a didv is added at the rear
   pub tells : {e : ℕ} (lock : ℕ) → has (u .letting) lock ≡ true → Bare Y → e ≤ suc k → Inv n e (X ++ Y) A
       → Inv n (suc k) (X ++ (cell (suc k) (Didv (record { lock = lock; source = suc k })) ∷ Y))
-        (put A (suc k) (becomes u (Didv (record { lock = lock; source = suc k })) (u .activity) (u .held) (withoutLock (u .letting) lock)))
+      (put A (suc k) (becomes u (Didv (record { lock = lock; source = suc k })) (u .activity) (u .held) (withoutLock (u .letting) lock)))
   unfolding becomes
   tells lock l bare rear i =
       adds-did n X Y (suc k) v (record { lock = lock; source = suc k }) refl (ap (λ (z : Node). had z lock) (x .is) ∙ letting-had u lock l)
@@ -184,15 +191,17 @@ module _ {n : ℕ} {X Y : List Cell} {A : ℕ → Node} {k : ℕ} {u : Node} (x 
     where
       c : Car
       c = Didv (record { lock = lock; source = suc k })
+
       v : Node
       v = becomes u c (u .activity) (u .held) (withoutLock (u .letting) lock)
+
       low : lock < 64
       low = has-in 64 (u .letting) lock (x .small .letting) l
 
   -- its own reqp comes back: the node is granted the lock
   pub gets : (m : ℕ) {e : ℕ} (t : Tag) → t .source ≡ suc k → (multiring m ≡ true) ⊎ (Gateless X × Gateless Y) → Inv n e (X ++ (cell k (Reqp t) ∷ Y)) A
       → Inv n e (X ++ (cell (suc k) (grantCar m (suc k) (t .lock)) ∷ Y))
-        (put A (suc k) (becomes u (grantCar m (suc k) (t .lock)) Resting (withLock (u .held) (t .lock)) (u .letting)))
+      (put A (suc k) (becomes u (grantCar m (suc k) (t .lock)) Resting (withLock (u .held) (t .lock)) (u .letting)))
   unfolding grantCar
   gets m t own mode i =
       grants n X Y k v c t own (x .top) (notice (multiring m) refl) (granted-has u c Resting (t .lock) low)
@@ -201,16 +210,22 @@ module _ {n : ℕ} {X Y : List Cell} {A : ℕ → Node} {k : ℕ} {u : Node} (x 
     where
       c : Car
       c = grantCar m (suc k) (t .lock)
+
       v : Node
       v = becomes u c Resting (withLock (u .held) (t .lock)) (u .letting)
+
       waiting : u .activity ≡ WaitingReqp (t .lock)
       waiting = ap (λ (z : Node). z .activity) (sym (x .is)) ∙ here (Reqp t) i .waits (WaitingReqp (t .lock)) (suc k) (ap (asks (WaitingReqp (t .lock))) own)
+
       named : Names (u .activity) (t .lock)
       named = subst (λ z. Names z (t .lock)) (sym waiting) refl
+
       low : t .lock < 64
       low = x .small .wish (t .lock) named
+
       free : had u (t .lock) ≡ false
       free = apart-u i .wish (t .lock) named
+
       notice : (b : Bool) → multiring m ≡ b
           → ((cond b (Gotp (record { lock = t .lock; source = suc k })) Null ≡ Null) × Gateless X × Gateless Y)
           ⊎ ((y : Notice) × (cond b (Gotp (record { lock = t .lock; source = suc k })) Null ≡ Gotp y) × (y .source ≡ suc k) × (y .lock ≡ t .lock))

@@ -97,6 +97,7 @@ module _ (u : Node) (c : Car) (act : Activity) (own : ℕ) (small : own < 64) wh
       not-it : (b : Bool) → not b ≡ true → b ≡ false
       not-it true e = sym e
       not-it false e = refl
+
       go : (m b : Bool) → eqb lock own ≡ b → (has (u .held) lock && not b) ≡ true → has (cond m (withLock (u .letting) own) (u .letting)) lock ≡ false
       go true b e k =
           has-with (u .letting) own lock small
@@ -120,10 +121,14 @@ module _ (u : Node) (c : Car) (act : Activity) (own : ℕ) (small : own < 64) wh
     where
       words : (lock : ℕ) → has (u .held) lock ≡ true → has (withoutLock (u .letting) own) lock ≡ false
       words lock h = has-without (u .letting) own lock small ∙ rw (x .words lock h)
+
       wish : (lock : ℕ) → (has (u .held) lock || has (u .letting) lock) ≡ false → (has (u .held) lock || has (withoutLock (u .letting) own) lock) ≡ false
       wish lock e =
-          rw (has-without (u .letting) own lock small, or-left (has (u .held) lock) (has (u .letting) lock) e,
-            or-right (has (u .held) lock) (has (u .letting) lock) e)
+          rw (
+            has-without (u .letting) own lock small,
+            or-left (has (u .held) lock) (has (u .letting) lock) e,
+            or-right (has (u .held) lock) (has (u .letting) lock) e,
+          )
 
 -- a lock that is being let go is had
 pub letting-had : (u : Node) (lock : ℕ) → has (u .letting) lock ≡ true → had u lock ≡ true

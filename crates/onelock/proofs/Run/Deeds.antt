@@ -72,8 +72,10 @@ module _ (None : ℕ → Type 0) (rules me lock : ℕ) (u : Node) (f : Fine rule
     where
       v : Node
       v = becomes u c (u .activity) (u .held) (withoutLock (u .letting) own)
+
       low : own < 64
       low = has-in 64 (u .letting) own (f .small .letting) h
+
       go : (b : Bool) → eqb own lock ≡ b → Does v (deedIf (true && b) (ended me))
       go true e =
           gives (subst (λ x. had u x ≡ true) (eqb-true own lock e) (letting-had u own h))
@@ -88,8 +90,10 @@ module _ (None : ℕ → Type 0) (rules me lock : ℕ) (u : Node) (f : Fine rule
     where
       v : Node
       v = becomes u c act (withoutLock (u .held) own) (letGo rules (u .letting) own)
+
       low : own < 64
       low = has-in 64 (u .held) own (f .small .held) h
+
       go : (m : Bool) → multiring rules ≡ m → (b : Bool) → eqb own lock ≡ b → Does v (deedIf (not m && b) (ended me))
       go true multi b e = stays (moved-same u c act own low rules multi h lock)
       go false ring true e =
@@ -105,6 +109,7 @@ module _ (None : ℕ → Type 0) (rules me lock : ℕ) (u : Node) (f : Fine rule
     where
       v : Node
       v = becomes u c act (withLock (u .held) own) (u .letting)
+
       go : (b : Bool) → eqb own lock ≡ b → Does v (deedIf b (granted me))
       go true e = gets (subst None (eqb-true own lock e) none) (subst (λ x. had v x ≡ true) (eqb-true own lock e) (granted-has u c act own low))
       go false e = stays (granted-other u c act own low lock (λ same. eqb-false own lock e (sym same)))

@@ -112,6 +112,7 @@ item-tells (act action node own) lock s x =
   where
     ends : Bool
     ends = releases action && not (multiring (s .plan .rules)) && eqb own lock
+
     go : (b : Bool) → eqb (actionNumber action s node own) 0 ≡ b → Shows s lock (cond b (actedState action s node own) s) (deedIf (ends && b) (ended node))
     go true e = rw (and-true ends) (act-tells s (good s x) action node own lock (eqb-true _ 0 e))
     go false e = rw (and-false ends) (nothing (λ k u. refl))

@@ -95,7 +95,7 @@ module _ (s : State) (x : Kept s) where
       let number = nodesBefore (s .plan) place + q in
       let v = valueAt (s .plan) place in
       let most : suc number ≤ nodeCount (s .plan) =
-        omega (arith, nodes-within (s .plan) (s .plan .positions) place below, size-many v (ne-eqb v 0 value), counted (s .plan) (x .plan)) in
+      omega (arith, nodes-within (s .plan) (s .plan .positions) place below, size-many v (ne-eqb v 0 value), counted (s .plan) (x .plan)) in
       let here : suc number - 1 ≡ number = omega arith in
       had-kept (suc number) lock (record { low = omega arith; high = most }) ∙ ap (λ (i : ℕ). had (getD (s .nodes) i restNode) lock) here
 
@@ -106,22 +106,25 @@ module _ (s : State) (x : Kept s) where
   true-word place below value tour lock =
       same-test _ _
       (λ h.
-        let w = word .to tour lock h in
-        let q = w .who - suc k in
-        let inside : q < v = omega (arith, w .above, w .upto, users-size (s .nodes) k v) in
-        let number : w .who ≡ suc (k + q) = omega (arith, w .above) in
-        some-at f v q inside (sym (subring-had place q lock below value inside) ∙ ap (λ (i : ℕ). had (A i) lock) (sym number) ∙ w .has-it))
+      let w = word .to tour lock h in
+      let q = w .who - suc k in
+      let inside : q < v = omega (arith, w .above, w .upto, users-size (s .nodes) k v) in
+      let number : w .who ≡ suc (k + q) = omega (arith, w .above) in
+      some-at f v q inside (sym (subring-had place q lock below value inside) ∙ ap (λ (i : ℕ). had (A i) lock) (sym number) ∙ w .has-it))
       (λ h.
-        let w = some-found f v h in
-        word .from tour lock (suc (k + w .place)) (omega arith) (omega (arith, w .below, users-size (s .nodes) k v))
-        (subring-had place (w .place) lock below value (w .below) ∙ w .holds))
+      let w = some-found f v h in
+      word .from tour lock (suc (k + w .place)) (omega arith) (omega (arith, w .below, users-size (s .nodes) k v))
+      (subring-had place (w .place) lock below value (w .below) ∙ w .holds))
     where
       k : ℕ
       k = nodesBefore (s .plan) place
+
       v : ℕ
       v = valueAt (s .plan) place
+
       f : ℕ → Bool
       f q = had (getD (s .nodes) (k + q) restNode) lock
+
       word : TrueWord A k (junctionAt s place) (usersFrom (s .nodes) k v)
       word =
           line-junction (TrueWord A) s place
@@ -134,14 +137,17 @@ module _ (s : State) (x : Kept s) where
         plan = x .plan;
         formed = x .formed;
         pass = x .pass;
-        short = omega (arith, whole-queue (s .plan .rules) (nodeCount (s .plan)) (s .zeroth .car) (queueOf (s .zeroth)) (lineOf s) (x .whole),
-          queue-length (s .zeroth) (omega (arith, x .count, x .formed .queue)));
+        short = omega (
+          arith,
+          whole-queue (s .plan .rules) (nodeCount (s .plan)) (s .zeroth .car) (queueOf (s .zeroth)) (lineOf s) (x .whole),
+          queue-length (s .zeroth) (omega (arith, x .count, x .formed .queue)),
+        );
         room = kept-room s x;
         ready = walk-astray s ∙ none-strays A 0 (s .zeroth .car) (lineOf s) each-ready;
         one = λ lock i k u v h g. x .whole .inv .one lock i k (had-kept i lock u ∙ h) (had-kept k lock v ∙ g);
         apart = λ k u. subst Apart (kept-node s x k u) (x .whole .inv .apart k);
         back = meets-all (Ready A) (Awaited (NobodyHas s))
-          (λ n a u ready t e source. let b = ready .back t e source in (b .0, λ k w h. b .1 k (had-kept k (t .lock) w ∙ h)))
-          0 (s .zeroth .car) (lineOf s) each-ready;
+            (λ n a u ready t e source. let b = ready .back t e source in (b .0, λ k w h. b .1 k (had-kept k (t .lock) w ∙ h)))
+            0 (s .zeroth .car) (lineOf s) each-ready;
         words = true-word;
       }

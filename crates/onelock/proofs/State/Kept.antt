@@ -69,7 +69,7 @@ module _ (s : State) (x : Kept s) where
   next-whole =
       subst
       (λ (y : Car). Whole rules nodes (sentBy (queueOf (s .zeroth)) y) (queueAfter (queueOf (s .zeroth)) y)
-        (stepLine rules 0 (s .zeroth .car) (lineOf s)))
+      (stepLine rules 0 (s .zeroth .car) (lineOf s)))
       (sym (walk-last s))
       (whole-step rules nodes (s .zeroth .car) (queueOf (s .zeroth)) (lineOf s) (line-small s (x .pass)) (line-cars s (x .pass)) (x .whole))
 
@@ -102,7 +102,7 @@ module _ (s : State) (x : Kept s) where
       let car = s .zeroth .car in
       let A = x .whole .ring .nodes in
       let both = meets-both (Acts s) (Numbers A) 0 car (lineOf s) (line-acts s (x .plan) (x .formed))
-        (agrees-meets A 0 car (lineOf s) (x .whole .ring .agrees)) in
+      (agrees-meets A 0 car (lineOf s) (x .whole .ring .agrees)) in
       let met = meets-at (Both (Acts s) (Numbers A)) 0 car (lineOf s) number both (u .low) (omega (arith, line-size s (x .plan), u .high)) in
       met .holds .1 ∙ sym (met .holds .0 .old)
 
@@ -114,13 +114,13 @@ kept-act action s node lock x a =
     let nodes = nodeCount (s .plan) in
     let u = numbered nodes node (accepted-node action s node lock a) in
     let allowed : nodeNumber action (x .whole .ring .nodes node) lock ≡ 0 =
-      ap (λ (v : Node). nodeNumber action v lock) (kept-node s x node u) ∙ accepted action s node lock a .1 in
+    ap (λ (v : Node). nodeNumber action v lock) (kept-node s x node u) ∙ accepted action s node lock a .1 in
     record {
       plan = x .plan;
       formed = formed-act action s node lock (x .formed);
       pass = pass-act action s node lock (x .pass) a;
       count = x .count;
       whole = rw (line-act action s node lock (x .formed) a (x .plan))
-        (whole-act rules nodes action node lock (s .zeroth .car) (queueOf (s .zeroth)) (lineOf s) (x .whole) (u .low) (u .high) allowed
-        (line-small s (x .pass)));
+          (whole-act rules nodes action node lock (s .zeroth .car) (queueOf (s .zeroth)) (lineOf s) (x .whole) (u .low) (u .high) allowed
+          (line-small s (x .pass)));
     }

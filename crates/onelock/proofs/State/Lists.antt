@@ -90,7 +90,7 @@ notice-lock : (rules nodes locks : ℕ) (c : Car) → locks ≤ 64 → carNames 
 unfolding carNames noticeNames
 notice-lock rules nodes locks c most e x is =
     let named : noticeNames rules nodes locks x ≡ true =
-      ⊎-elim (λ z. ap (carNames rules nodes locks) (sym z) ∙ e) (λ z. ap (carNames rules nodes locks) (sym z) ∙ e) is in
+    ⊎-elim (λ z. ap (carNames rules nodes locks) (sym z) ∙ e) (λ z. ap (carNames rules nodes locks) (sym z) ∙ e) is in
     omega (arith, names-lock nodes locks (x .lock) (x .source) (and-right (multiring rules) (names nodes locks (x .lock) (x .source)) named))
 
 -- so a line's notices name locks below 64 where all places pass
@@ -104,8 +104,8 @@ line-cars s p =
     positions-parts (λ u. LowNotice (u .car)) (λ j. LowNotice (j .subring) × LowNotice (j .main)) (s .nodes) (s .junctions)
     (λ i. notice-lock rules nodes locks _ most (sound-car rules nodes locks _ (p .nodes i)))
     (λ i.
-      let f = junction-in-plan rules nodes locks _ (p .junctions i) in
-      (notice-lock rules nodes locks _ most (f .1), notice-lock rules nodes locks _ most (f .0)))
+    let f = junction-in-plan rules nodes locks _ (p .junctions i) in
+    (notice-lock rules nodes locks _ most (f .1), notice-lock rules nodes locks _ most (f .0)))
     (s .plan) (s .plan .positions) 0 0 0
 
 -- a position of value 0 is a user node
@@ -133,6 +133,7 @@ line-mode s r = go (multiring (s .plan .rules)) refl
   where
     plan : Plan
     plan = s .plan
+
     go : (b : Bool) → multiring (plan .rules) ≡ b → (multiring (plan .rules) ≡ true) ⊎ Users (lineOf s)
     go true e = inl e
     go false e =
@@ -176,14 +177,19 @@ module _ (P : ℕ → Junction → Line → Type 0) (nodes : List Node) (junctio
     where
       i : ℕ
       i = nodesBefore plan place
+
       j : ℕ
       j = junctionsBefore plan place
+
       v : ℕ
       v = valueAt plan place
+
       more-nodes : i + sizeOf v ≡ nodesBefore plan (suc place)
       more-nodes = sym (nodes-more plan place) ∙ ap (nodesBefore plan) (add-one place)
+
       more-junctions : j + junctionsOf v ≡ junctionsBefore plan (suc place)
       more-junctions = sym (junctions-more plan place) ∙ ap (junctionsBefore plan) (add-one place)
+
       behind : Junctions P (nodesBefore plan (suc place))
           (positionsFrom plan nodes junctions (suc place) n (nodesBefore plan (suc place)) (junctionsBefore plan (suc place)))
       behind =

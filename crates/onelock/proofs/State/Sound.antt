@@ -200,7 +200,7 @@ unfolding nextState walk nodePasses junctionPasses
 pass-next s p =
     let w = walks-before s p (s .plan .positions) (omega arith) in
     let z = zero-in-plan (s .plan .rules) (nodeCount (s .plan)) (s .plan .locks) (s .zeroth) (walk s .last) (w .last)
-      (record { sent = p .sent; queue = p .queue }) in
+    (record { sent = p .sent; queue = p .queue }) in
     record { plan = p .plan; nodes = w .nodes-pass; junctions = w .junctions-pass; sent = z .sent; queue = z .queue }
 
 -- every place still passes after an action that is not refused

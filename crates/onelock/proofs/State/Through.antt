@@ -165,7 +165,7 @@ made-node s w x f l =
       old = ap (λ (n : ℕ). getD (s .nodes) n restNode) e;
       new = ap (λ (n : ℕ). getD (x .nodes) n restNode) e ∙ node-after s w x f l;
       event = ap (λ (n : ℕ). getD (x .events) n quiet .event) e ∙ ap (λ (h : Happening). h .event) (l .events (w .passed) (omega arith)
-        ∙ getD-set-same (w .events) (w .passed) _ quiet (omega (arith, l .further, f .events, l .event-places, later-node s w .event-places)));
+          ∙ getD-set-same (w .events) (w .passed) _ quiet (omega (arith, l .further, f .events, l .event-places, later-node s w .event-places)));
     }
 
 -- through a user node and what is behind it
@@ -178,11 +178,11 @@ through-node s rest w z t =
       passed = omega (arith, t .passed);
       later = later-then w (pastNode s w) z (later-node s w) (t .later);
       after = λ x f l.
-        let n = later-then (pastNode s w) z x (t .later) l in
-        record {
-          line = ap₂ user (node-after s w x f n) (t .after x f l .line);
-          acts = (made-node s w x f n, t .after x f l .acts);
-        };
+          let n = later-then (pastNode s w) z x (t .later) l in
+          record {
+            line = ap₂ user (node-after s w x f n) (t .after x f l .line);
+            acts = (made-node s w x f n, t .after x f l .acts);
+          };
     }
 
 -- through the user nodes of a subring
@@ -286,8 +286,8 @@ module _ (s : State) (v : ℕ) (w : Walk) where
         nodes = l .nodes;
         events = l .events;
         junctions = λ n below.
-          l .junctions n (omega arith) ∙ getD-set-other (w .junctions) (w .turned) n _ restJunction (omega arith)
-          ∙ ap (λ (js : List Junction). getD js n restJunction) (sym j);
+            l .junctions n (omega arith) ∙ getD-set-other (w .junctions) (w .turned) n _ restJunction (omega arith)
+            ∙ ap (λ (js : List Junction). getD js n restJunction) (sym j);
         node-places = l .node-places;
         event-places = l .event-places;
         junction-places = l .junction-places ∙ length-set (w .junctions) (w .turned) _ ∙ ap length (sym j);
@@ -301,7 +301,7 @@ module _ (s : State) (v : ℕ) (w : Walk) where
       l .junctions (w .turned) (omega arith)
       ∙ getD-set-same (w .junctions) (w .turned) _ restJunction (omega (arith, l .turned, f .junctions, l .junction-places, later-junction .junction-places))
       ∙ ap₂ (λ (n : ℕ) (b : Bool). junctionTurn (w .passed) (w .passed + n) b (w .last) (inside .last) here)
-        (sym (users-size (s .nodes) (w .passed) v)) (wanted-users s (w .passed) v)
+      (sym (users-size (s .nodes) (w .passed) v)) (wanted-users s (w .passed) v)
       ∙ ap (λ (c : Car). junctionTurn (w .passed) (w .passed + size users) (wanting users) (w .last) c here) (inner .last)
 
   -- through the junction and what is behind it
@@ -317,13 +317,13 @@ module _ (s : State) (v : ℕ) (w : Walk) where
         passed = omega (arith, t .passed, inner .passed);
         later = later-then w behind z later-junction (t .later);
         after = λ x f l.
-          let n = later-then behind z x (t .later) l in
-          let i = inner .after x f (later-inside x n) in
-          let o = t .after x f l in
-          record {
-            line = ap₂ (λ (j : Junction) (q : Line). junction j q (rest (x .nodes) (x .junctions))) (junction-after x f n) (i .line)
-              ∙ ap (λ (q : Line). junction (junctionTurn (w .passed) (w .passed + size users) (wanting users) (w .last) (out (here .subring) users) here)
-                (stepLine m (w .passed) (here .subring) users) q) (o .line ∙ ap (λ (k : ℕ). stepLine m k (here .main) r) (inner .passed));
-            acts = (i .acts, subst (λ (k : ℕ). Meets (Made s x) k (here .main) r) (inner .passed) (o .acts));
-          };
+            let n = later-then behind z x (t .later) l in
+            let i = inner .after x f (later-inside x n) in
+            let o = t .after x f l in
+            record {
+              line = ap₂ (λ (j : Junction) (q : Line). junction j q (rest (x .nodes) (x .junctions))) (junction-after x f n) (i .line)
+                  ∙ ap (λ (q : Line). junction (junctionTurn (w .passed) (w .passed + size users) (wanting users) (w .last) (out (here .subring) users) here)
+                  (stepLine m (w .passed) (here .subring) users) q) (o .line ∙ ap (λ (k : ℕ). stepLine m k (here .main) r) (inner .passed));
+              acts = (i .acts, subst (λ (k : ℕ). Meets (Made s x) k (here .main) r) (inner .passed) (o .acts));
+            };
       }

@@ -75,15 +75,15 @@ go-on s place n x i j p t h = subst₂ (λ (a b : ℕ). Through s (further s pla
 through-position : (s : State) (place n : ℕ) (w : Walk) (v : ℕ) → valueAt (s .plan) place ≡ v
     → ((x : Walk) → Through s (further s place n (x .passed) (x .turned)) x (goneOn s place n x))
     → Through s (λ ns js. positionAt ns js v (w .passed) (w .turned) (further s place n (w .passed + sizeOf v) (w .turned + junctionsOf v) ns js)) w
-      (goneOn s place n (onPosition s place w))
+    (goneOn s place n (onPosition s place w))
 unfolding sizeOf junctionsOf
 through-position s place n w zero e rest =
     rw (past-user s place w e) (through-node s _ w _
-      (go-on s place n (pastNode s w) _ _ (sym (add-one (w .passed))) (sym (add-zero (w .turned))) (rest (pastNode s w))))
+    (go-on s place n (pastNode s w) _ _ (sym (add-one (w .passed))) (sym (add-zero (w .turned))) (rest (pastNode s w))))
 through-position s place n w (suc v) e rest =
     rw (past-junction s place v w e) (through-junction s (suc v) w _ _
-      (go-on s place n (behind s (suc v) w) _ _ (behind-passed s (suc v) w ∙ rw eqb·suc-zero) (behind-turned s (suc v) w ∙ rw eqb·suc-zero)
-      (rest (behind s (suc v) w))))
+    (go-on s place n (behind s (suc v) w) _ _ (behind-passed s (suc v) w ∙ rw eqb·suc-zero) (behind-turned s (suc v) w ∙ rw eqb·suc-zero)
+    (rest (behind s (suc v) w))))
 
 -- through so many positions from a place on
 through-positions : (s : State) (n place : ℕ) (w : Walk)
@@ -147,7 +147,7 @@ has-room s r f =
     let n : walk s .passed ≤ 64 = omega (arith, t .passed, line-size s r, nodes-count-most (s .plan) r) in
     let positions = s .plan .positions in
     let turned : walk s .turned ≤ 16 =
-      rw (from-first (onPosition s) positions (setOut s)) (omega (arith, turned-most s positions 0 (setOut s), in-range (s .plan) r .positions-most)) in
+    rw (from-first (onPosition s) positions (setOut s)) (omega (arith, turned-most s positions 0 (setOut s), in-range (s .plan) r .positions-most)) in
     record {
       nodes = omega (arith, t .later .node-places, f .nodes);
       events = omega (arith, t .later .event-places, length-replicate 64 quiet);

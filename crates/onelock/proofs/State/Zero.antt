@@ -110,7 +110,7 @@ sending z y l c = go (z .car) (z .queue) (z .count) l c
   where
     go : (old : Car) (queue : List Slot) (count : ℕ) → length queue ≡ 65 → count ≤ 65
         → Sends (record { car = old; queue = queue; count = count }) (sends (record { car = old; queue = queue; count = count })
-          (zeroRule (record { car = old; queue = queue; count = count }) y)) y
+        (zeroRule (record { car = old; queue = queue; count = count }) y)) y
     go old queue zero l c = record { car = refl; left = refl; places = l; most = c }
     go old [] (suc count) l c = absurd (omega arith)
     go old (slot ∷ slots) (suc count) l c = rw eqb·suc-zero (sends-head old slots count (omega arith) (omega arith) (slot .car) y)

@@ -50,9 +50,10 @@ calm-step m a (junction j s r) (f-tour tour live sub inner out main rest) e smal
 pub wanting-calm : (l : Line) → wanting l ≡ false → NoWait l
 unfolding wantsTrain isIdle
 wanting-calm end e = tt
-wanting-calm (user u r) e =
-    (idle (u .activity) (or-left (not (isIdle (u .activity))) (not (eqb (u .letting) 0)) (or-left (wantsTrain u) (wanting r) e)),
-      wanting-calm r (or-right (wantsTrain u) (wanting r) e))
+wanting-calm (user u r) e = (
+  idle (u .activity) (or-left (not (isIdle (u .activity))) (not (eqb (u .letting) 0)) (or-left (wantsTrain u) (wanting r) e)),
+  wanting-calm r (or-right (wantsTrain u) (wanting r) e),
+)
   where
     idle : (x : Activity) → not (isIdle x) ≡ false → waits x ≡ false
     idle Resting e = refl

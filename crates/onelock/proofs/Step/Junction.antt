@@ -79,7 +79,7 @@ module _ {m n : ℕ} (k : ℕ) {w : Bool} {lo hi e : ℕ} {p q o : Phase} {A : �
   pub closing : (rear word : ℕ) (B C S D T : List Cell) → S ++ D ≡ T
       → Inv n rear (cellsThen ++ (C ++ (gate k (k + size s) word ∷ (S ++ (D ++ B))))) (view k (stepLine m k (j .subring) s) nodesThen)
       → Inv n rear (F ++ (cells (R .phase) (k + (size s + size r)) (out (j .main) r) ++ ((R .front ++ (C ++ (gate k (k + size s) word ∷ T))) ++ B)))
-        (view k (stepLine m k (j .subring) s) (view (k + size (stepLine m k (j .subring) s)) (stepLine m (k + size s) (j .main) r) A))
+      (view k (stepLine m k (j .subring) s) (view (k + size (stepLine m k (j .subring) s)) (stepLine m (k + size s) (j .main) r) A))
   closing rear word B C S D T is i =
       subst (λ (z : ℕ). Inv n rear (whole (k + (size s + size r)) T) (view k s₁ (view z r₁ A))) (sym (step-end m k (j .subring) s))
       (subst (λ L. Inv n rear L (view k s₁ nodesThen))
@@ -87,7 +87,9 @@ module _ {m n : ℕ} (k : ℕ) {w : Bool} {lo hi e : ℕ} {p q o : Phase} {A : �
     where
       s₁ : Line
       s₁ = stepLine m k (j .subring) s
+
       r₁ : Line
       r₁ = stepLine m (k + size s) (j .main) r
+
       whole : ℕ → List Cell → List Cell
       whole z L = F ++ (cells (R .phase) z (out (j .main) r) ++ ((R .front ++ (C ++ (gate k (k + size s) word ∷ L))) ++ B))

@@ -100,6 +100,7 @@ module _ {m n : ℕ} {w f fm : Bool} {lo hi k e : ℕ} {p′ p q q₂ o : Phase}
       both c d move =
           subst (λ D. Inv n (R .rear) (X ++ (D ++ (door ∷ (H ++ B)))) A₁) (sym d)
           (move (subst (λ C. Inv n (R .rear) (X ++ (door ∷ (H ++ (C ++ B)))) A₁) c moved-inv))
+
       by : Stands p′ p (kind a) q → Inv n (R .rear) (X ++ (cells p′ h c ++ (door ∷ (H ++ B)))) A₁
       by (st-shadow b d t) = both {C = []} {D = []} (ap (λ (z : Phase). cells z k a) d) (ap (λ (z : Phase). cells z h c) b) (λ i. i)
       by (st-gap g) = both {C = []} {D = []} (gap-cells p k a g) (gap-cells p′ h c (like ∙ g)) (λ i. i)
@@ -171,14 +172,15 @@ module _ {m n : ℕ} {w f fm : Bool} {lo hi k e : ℕ} {p′ p q q₂ o : Phase}
         front = R .front ++ (mainCells ++ (door ∷ S .front));
         rear = S .rear;
         fit = past-at h (step-end m k (j .subring) s) tour train (shadow-one a)
-          (λ b act i z low high. outside act i (shadow-asks a act i z) low high) (subring-fit (aheadOf mainCells) [] S) (still quiet)
-          (subst (λ (z : Kind). One w p′ z f q) (sym like) (carry rel one)) (clean-by c like asked) (R .fit);
+            (λ b act i z low high. outside act i (shadow-asks a act i z) low high) (subring-fit (aheadOf mainCells) [] S) (still quiet)
+            (subst (λ (z : Kind). One w p′ z f q) (sym like) (carry rel one)) (clean-by c like asked) (R .fit);
         grew = grew-by (aheadOf mainCells) [] S;
         inv = closing k j s R (S .rear) (j .word) B mainCells (S .front) [] (S .front) (append-nil (S .front)) (subring-inv mainCells [] S);
       }
     where
       mainCells : List Cell
       mainCells = cells p′ h c
+
       S : Subring (aheadOf mainCells) []
       S =
           step (aheadOf mainCells) []
@@ -194,19 +196,21 @@ module _ {m n : ℕ} {w f fm : Bool} {lo hi k e : ℕ} {p′ p q q₂ o : Phase}
         front = R .front ++ (door ∷ (S .front ++ cells p′ k Token));
         rear = S .rear;
         fit = tour-at h (step-end m k (j .subring) s) refl (token-live .0) (token-live .1) (subring-fit (aheadOf []) D S)
-          (λ b. absurd (true≢false (cc))) (subst (λ (z : Bool). One false before gap z before) (sym train) coming)
-          (subst (λ (z : Phase). Fit w lo hi z h (stepLine m h (j .main) r) (R .phase) (R .front)) (token-live .2) (R .fit));
+            (λ b. absurd (true≢false (cc))) (subst (λ (z : Bool). One false before gap z before) (sym train) coming)
+            (subst (λ (z : Phase). Fit w lo hi z h (stepLine m h (j .main) r) (R .phase) (R .front)) (token-live .2) (R .fit));
         grew = grew-by (aheadOf []) D S;
         inv = closing k j s R (S .rear) (j .word) B [] (S .front) D (S .front ++ cells p′ k Token)
-          (ap (λ (T : List Cell). S .front ++ T) (rel-cells k a rel ∙ ap (cells p′ k) is)) (subring-inv [] D S);
+            (ap (λ (T : List Cell). S .front ++ T) (rel-cells k a rel ∙ ap (cells p′ k) is)) (subring-inv [] D S);
       }
     where
       D : List Cell
       D = cells p k a
+
       S : Subring (aheadOf []) D
       S =
           step (aheadOf []) D (subring (aheadOf []) D clean (ahead [] tt) (places-cells k k p k a (omega arith) (omega arith)))
           (subst (λ T. Inv n (R .rear) T A₁) (sym (three X [] (door ∷ []) (H ++ (D ++ B)))) moved-inv)
+
       token-live : Come p′ × (One false p′ token true before) × (q ≡ before)
       token-live = token-one (subst (λ (c : Car). Rel p′ p (kind c)) is rel) (subst (λ (c : Car). One w p (kind c) f q) is one)
 
@@ -244,12 +248,12 @@ module _ {m n : ℕ} {w f fm : Bool} {lo hi k : ℕ} {p′ p q q₂ : Phase} {A 
   pub past-moved : {e : ℕ} {o : Phase} → j .tour ≡ false → j .train ≡ false → Clean k (k + size s) before (j .subring) → Clean lo hi q (j .main)
       → (i : Inv n e (F ++ (whole ++ (cells p k a ++ B))) A)
       → (Setting m n lo hi q (k + size s) (j .main) r F Y A → Inv n e (F ++ (G ++ (cells q (k + size s) (j .main) ++ Y))) A
-        → Moved m n w lo hi q q₂ (k + size s) (j .main) r o F Y e A)
+      → Moved m n w lo hi q q₂ (k + size s) (j .main) r o F Y e A)
       → ((R : Moved m n w lo hi q q₂ (k + size s) (j .main) r o F Y e A) → Steps rel one inner calm main x (outside i) R)
       → Moved m n w lo hi p′ q k a (junction j s r) o F B e A
   past-moved {e} tour train clean-sub clean i step-rest step-sub =
       let R = step-rest (past-rest G rel one inner calm main x clean)
-        (subst (λ T. Inv n e T A) (past-list G rel one inner calm main x) i) in
+      (subst (λ T. Inv n e T A) (past-list G rel one inner calm main x) i) in
       joined (R .phase) (R .last) (R .clean)
       (past-done rel one inner calm main x (outside i) R (passing j (out (j .subring) s) k (k + size s) (wanting s) a tour)
       tour train clean-sub (step-sub R))

@@ -107,7 +107,7 @@ module _ (j : Junction) (lo hi : ℕ) (wants : Bool) (a : Car) (tour : j .tour �
         word = withLock (j .word) (x .lock);
         is = refl;
         bits = λ lock. has-with (j .word) (x .lock) lock low ∙ go (has (j .word) lock) (eqb lock (x .lock))
-          ∙ ap (λ (z : Bool). cond (z && eqb lock (x .lock)) true (has (j .word) lock)) (sym e);
+            ∙ ap (λ (z : Bool). cond (z && eqb lock (x .lock)) true (has (j .word) lock)) (sym e);
       }
     where
       go : (b z : Bool) → (b || z) ≡ cond (true && z) true b
@@ -126,7 +126,7 @@ module _ (j : Junction) (lo hi : ℕ) (wants : Bool) (a : Car) (tour : j .tour �
         word = withoutLock (j .word) (x .lock);
         is = refl;
         bits = λ lock. has-without (j .word) (x .lock) lock low ∙ go (has (j .word) lock) (eqb lock (x .lock))
-          ∙ ap (λ (z : Bool). cond (z && eqb lock (x .lock)) false (has (j .word) lock)) (sym e);
+            ∙ ap (λ (z : Bool). cond (z && eqb lock (x .lock)) false (has (j .word) lock)) (sym e);
       }
     where
       go : (b z : Bool) → (b && not z) ≡ cond (true && z) false b

@@ -167,10 +167,10 @@ module _ {m n : ℕ} {w f fs : Bool} {lo hi k : ℕ} {p′ p q p₁ p₂ q₂ : 
             front = R .front ++ (cells (S .phase) h c ++ (gate k h word ∷ (S .front ++ cells p′ k a)));
             rear = S .rear;
             fit = tour-at h (step-end m k (j .subring) s) tour (λ b. live (off one (rel-before rel b) .phase)) (no-shadow live (carry rel one))
-              (S .fit) out one-c (R .fit);
+                (S .fit) out one-c (R .fit);
             grew = grew;
             inv = closing k j s R (S .rear) word B (cells (S .phase) h c) (S .front) (cells p k a) (S .front ++ cells p′ k a)
-              (ap (λ (T : List Cell). S .front ++ T) (rel-cells k a rel)) i;
+                (ap (λ (T : List Cell). S .front ++ T) (rel-cells k a rel)) i;
           }
 
       -- the tour ends
@@ -182,20 +182,23 @@ module _ {m n : ℕ} {w f fs : Bool} {lo hi k : ℕ} {p′ p q p₁ p₂ q₂ : 
             front = R .front ++ (cells p′ h Idle ++ (gate k h (j .word) ∷ S .front));
             rear = S .rear;
             fit = past-at h (step-end m k (j .subring) s) refl refl (subst (λ (z : Kind). One true before z false before) (sym (came .idle)) coming)
-              (gap-clean k h before a (came .idle)) (rest .ahead true) (λ b. absurd (not-inside (sym p′-after ∙ b)))
-              (subst₂ (λ (u v : Phase). One w u gap false v) (sym p′-after) (sym e₂) passed) (gap-clean lo hi p′ Idle refl) (R .fit);
+                (gap-clean k h before a (came .idle)) (rest .ahead true) (λ b. absurd (not-inside (sym p′-after ∙ b)))
+                (subst₂ (λ (u v : Phase). One w u gap false v) (sym p′-after) (sym e₂) passed) (gap-clean lo hi p′ Idle refl) (R .fit);
             grew = grew;
             inv = closing k j s R (S .rear) (j .word) B (cells p′ h Idle) (S .front) (cells p k a) (S .front)
-              (ap (λ (T : List Cell). S .front ++ T) (gap-cells p k a (came .idle)) ∙ append-nil (S .front))
-              (idle-through (cells p′ h Idle) (gap-cells (S .phase) h y idle) (gap-cells p′ h Idle refl));
+                (ap (λ (T : List Cell). S .front ++ T) (gap-cells p k a (came .idle)) ∙ append-nil (S .front))
+                (idle-through (cells p′ h Idle) (gap-cells (S .phase) h y idle) (gap-cells p′ h Idle refl));
           }
         where
           rest : Quiet k h q k s₁ (S .front)
           rest = quiet (S .fit) e₁
+
           came : Passed w p (kind a) f
           came = passed-by (subst (One w p (kind a) f) (rest .phase) one)
+
           p′-after : p′ ≡ after
           p′-after = passed-still rel (came .idle) ∙ came .phase
+
           not-inside : after ≡ inside → ⊥
           not-inside z = true≢false (cc)
 
@@ -205,6 +208,7 @@ module _ {m n : ℕ} {w f fs : Bool} {lo hi k : ℕ} {p′ p q p₁ p₂ q₂ : 
         where
           Done : Junction → Type 0
           Done j′ = Closed m n w lo hi p′ q k j j′ s r (R .phase) F B e A
+
           go : Leaves (S .phase) (kind y) p₂ (j .train) → Done (junctionTurn k h (wanting s) a y j)
           go (the-token is come one-t) =
               subst Done (sym (turn-token j k h (wanting s) a tour y is))
@@ -231,11 +235,11 @@ module _ {m n : ℕ} {w f fs : Bool} {lo hi k : ℕ} {p′ p q p₁ p₂ q₂ : 
   pub tour-moved : {e : ℕ} {o : Phase} → j .tour ≡ true
       → Inv n e (F ++ ((G ++ (cells p₂ (k + size s) (j .main) ++ (gate k (k + size s) (j .word) ∷ (H ++ cells q k (j .subring))))) ++ (cells p k a ++ B))) A
       → (Setting m n lo hi p₂ (k + size s) (j .main) r F (own ++ B) A → Inv n e (F ++ (G ++ (cells p₂ (k + size s) (j .main) ++ (own ++ B)))) A
-        → Moved m n w lo hi p₂ q₂ (k + size s) (j .main) r o F (own ++ B) e A)
+      → Moved m n w lo hi p₂ q₂ (k + size s) (j .main) r o F (own ++ B) e A)
       → ((R : Moved m n w lo hi p₂ q₂ (k + size s) (j .main) r o F (own ++ B) e A)
-        → Setting m n k (k + size s) q k (j .subring) s (X₂ R) (cells p k a ++ B) (A₁ R)
-        → Inv n (R .rear) (X₂ R ++ (H ++ (cells q k (j .subring) ++ (cells p k a ++ B)))) (A₁ R)
-        → Moved m n true k (k + size s) q p₁ k (j .subring) s p₂ (X₂ R) (cells p k a ++ B) (R .rear) (A₁ R))
+      → Setting m n k (k + size s) q k (j .subring) s (X₂ R) (cells p k a ++ B) (A₁ R)
+      → Inv n (R .rear) (X₂ R ++ (H ++ (cells q k (j .subring) ++ (cells p k a ++ B)))) (A₁ R)
+      → Moved m n true k (k + size s) q p₁ k (j .subring) s p₂ (X₂ R) (cells p k a ++ B) (R .rear) (A₁ R))
       → Moved m n w lo hi p′ q k a (junction j s r) o F B e A
   tour-moved {e} tour i step-rest step-sub =
       let R = step-rest tour-rest (subst (λ T. Inv n e T A) tour-list i) in

@@ -77,20 +77,28 @@ module _ {m n : ℕ} {w f : Bool} {lo hi k e : ℕ} {p′ p q q₂ o : Phase} {A
     where
       new : Node
       new = turn m (suc k) a u .node
+
       A₁ : ℕ → Node
       A₁ = view (suc k) (stepLine m (suc k) (u .car) r) A
+
       lastCell : List Cell
       lastCell = cells (rest .phase) (suc k + size r) (out (u .car) r)
+
       X : List Cell
       X = F ++ (lastCell ++ rest .front)
+
       turn-u : Turned m (suc k) u a new (turn m (suc k) a u .event)
       turn-u = turned m (suc k) u (x .small .0 .letting) a
+
       how : Arrived p′ p (kind a) (u .flag) q
       how = arrived rel one one-u
+
       other : p ≡ before → NotOwn (suc k) a
       other b act z = x .clean b act (suc k) z (omega (arith, x .low)) (omega (arith, x .high))
+
       clean-v : Clean lo hi p′ (new .car)
       clean-v b act s z = let c = arrived-before how b in x .clean (c .0) act s (turned-clean turn-u (c .1) (other (c .0)) act s z)
+
       place : Place n X B A₁ k u
       place =
           record {
@@ -103,30 +111,39 @@ module _ {m n : ℕ} {w f : Bool} {lo hi k e : ℕ} {p′ p q q₂ o : Phase} {A
             behind = x .behind;
             gates = x .gates;
           }
+
       mode : (multiring m ≡ true) ⊎ (Gateless X × Gateless B)
       mode =
           ⊎-elim (λ multi. inl multi)
-          (λ z. inr (gates-join _ F _ (z .1) (gates-join _ lastCell _ (cells-gates _ (rest .phase) (suc k + size r) (out (u .car) r))
-          (fit-gateless (step-users m (suc k) (u .car) r (z .0)) (rest .fit))), z .2))
+          (λ z. inr (
+            gates-join _ F _ (z .1) (gates-join _ lastCell _ (cells-gates _ (rest .phase) (suc k + size r) (out (u .car) r))
+                (fit-gateless (step-users m (suc k) (u .car) r (z .0)) (rest .fit))),
+            z .2,
+          ))
           (x .mode)
+
       old-rear : q ≡ after → u .flag ≡ true → e ≤ suc k
       old-rear b flagged =
           let z = ends-train (subst (λ (y : Bool). One w q (kind (u .car)) y q₂) flagged one-u) b in
           let one-cell : cells q (suc k) (u .car) ≡ cell (suc k) (u .car) ∷ [] =
-            ap (λ (y : Phase). cells y (suc k) (u .car)) b ∙ car-cell (suc k) (u .car) (z .0) in
+          ap (λ (y : Phase). cells y (suc k) (u .car)) b ∙ car-cell (suc k) (u .car) (z .0) in
           all-right (Ok n A e) G _ (all-right (Ok n A e) F _ (subst (λ C. Inv n e (F ++ (G ++ (C ++ (cells p k a ++ B)))) A) one-cell inv .all)) .0 .rear
+
       rear-u : q ≡ after → u .flag ≡ true → rest .rear ≤ suc k
       rear-u b flagged =
           let z = ends-train (subst (λ (y : Bool). One w q (kind (u .car)) y q₂) flagged one-u) b in
           ⊎-elim (λ s. omega (arith, s, old-rear b flagged)) (λ s. absurd (z .1 s)) (rest .grew)
+
       done : UserMoved n X B A₁ (rest .rear) k p′ q new
       done =
           user-turn n m X B A₁ (rest .rear) k u place mode turn-u how other (x .bare) rear-u
           (subst (λ T. Inv n (rest .rear) T A₁) (sym (three F lastCell (rest .front) (cells p k a ++ B))) (rest .inv))
+
       grew : (done .rear ≡ e) ⊎ (q ≡ after)
       grew =
           ⊎-elim (λ s. ⊎-elim (λ t. inl (s ∙ t)) (λ t. inr (passed-by (subst (One w q (kind (u .car)) (u .flag)) t one-u) .phase)) (rest .grew))
           (λ s. inr s) (done .grew)
+
       lists : X ++ (cells p′ (suc k) (new .car) ++ B)
           ≡ F ++ (cells (rest .phase) (k + suc (size r)) (out (u .car) r) ++ ((rest .front ++ cells p′ (suc k) (new .car)) ++ B))
       lists =

@@ -138,10 +138,13 @@ module _ (n : ℕ) where
     where
       Y₁ : List Cell
       Y₁ = G ++ (cell p c ∷ Y)
+
       Y₂ : List Cell
       Y₂ = cell p c ∷ (G ++ Y)
+
       past : (P : ℕ → Car → Type 0) → All P Y₁ → All P Y₂
       past P a = all-past P G Y p c g a
+
       note : noticed c ≤ p
       note = past (Ok n A e) (all-right (Ok n A e) X Y₁ (i .all)) .0 .note
 
@@ -154,10 +157,13 @@ module _ (n : ℕ) where
     where
       Y₁ : List Cell
       Y₁ = gate lo hi w ∷ (cell p c ∷ Y)
+
       Y₂ : List Cell
       Y₂ = cell p c ∷ (gate lo hi w′ ∷ Y)
+
       rise : (b : ℕ) → Rises n b Y₁ (n + e) → Rises n b Y₂ (n + e)
       rise b (r-gate (r-cell b₁ u r)) = r-cell b₁ u (r-gate r)
+
       noted : Words A Y₁ → Words A Y₂
       noted x = (exact-alike lo hi w w′ (cell p c ∷ Y) Y (λ lock. ap (λ (b : Bool). fold lo hi lock b Y) (f lock)) (x .0), x .1)
 
@@ -244,18 +250,21 @@ module _ (n : ℕ) where
     where
       front : All (Ok n A q) X
       front = all-both X ok-rear f (all-left (Ok n A e) X Y (i .all))
+
       inside : All (λ p d. (act : Activity) (s : ℕ) → request d ≡ asks act s → home n p s ≤ n + e → home n p s < n + q) X
       inside =
           all-both X (λ p d o h act s r m. home-inside p q s low (o .high act s r) (λ k. h act (rw k at r)) (omega arith)) front far
+
       alike : (lo hi lock : ℕ) (b : Bool) → fold lo hi lock b (cell q c ∷ Y) ≡ fold lo hi lock b Y
       alike lo hi lock b = ap (λ (x : Bool). fold lo hi lock x Y) (bit-far lo hi lock c b (omega (arith, request-noticed c own)))
 
   -- a request that comes to its own node is the only one of that node
   pub comes-home : (X Y : List Cell) {A : ℕ → Node} {e : ℕ} (p : ℕ) (c : Car) {act : Activity} → request c ≡ asks act (suc p)
       → All (λ q d. suc p ≤ q) X → All (λ q d. q ≤ p) Y → Inv n e (X ++ (cell p c ∷ Y)) A → Far (suc p) X × Far (suc p) Y
-  comes-home X Y p c q f g i =
-      (all-both X (λ k d l h act r. omega (arith, h act (suc p) r, home-new n k (suc p) l, old)) f (homes-below n X Y p c q (i .order)),
-       all-both Y (λ k d l h act r. omega (arith, h act (suc p) r, home-old n k (suc p) (omega arith), old)) g (homes-behind n X Y p c q (i .order)))
+  comes-home X Y p c q f g i = (
+    all-both X (λ k d l h act r. omega (arith, h act (suc p) r, home-new n k (suc p) l, old)) f (homes-below n X Y p c q (i .order)),
+    all-both Y (λ k d l h act r. omega (arith, h act (suc p) r, home-old n k (suc p) (omega arith), old)) g (homes-behind n X Y p c q (i .order)),
+  )
     where
       old : home n p (suc p) ≡ suc p
       old = home-old n p (suc p) (omega arith)
@@ -331,5 +340,6 @@ module _ (n : ℕ) where
     where
       old : All (Ok n A e) (at n Q)
       old = all-left (Ok n A e) (at n Q) G (i .all)
+
       words : Words A (G ++ [])
       words = subst (Words A) (sym (append-nil G)) (words-right A (at n Q) G (i .words))

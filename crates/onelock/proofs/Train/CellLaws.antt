@@ -176,8 +176,8 @@ pub right-same : {A B : ℕ → Node} {lo hi lock : ℕ} {b : Bool} → ((k : �
 right-same same r =
     record {
       to = λ e.
-        let s = r .to e in
-        record { who = s .who; above = s .above; upto = s .upto; has-it = same (s .who) (s .above) (s .upto) ∙ s .has-it };
+          let s = r .to e in
+          record { who = s .who; above = s .above; upto = s .upto; has-it = same (s .who) (s .above) (s .upto) ∙ s .has-it };
       from = λ k l h e. r .from k l h (sym (same k l h) ∙ e);
     }
 

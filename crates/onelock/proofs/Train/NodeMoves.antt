@@ -68,14 +68,14 @@ module _ (n : ℕ) where
   ok-less : {A B : ℕ → Node} {e e′ p : ℕ} {c : Car} → ((k lock : ℕ) → had (B k) lock ≡ true → had (A k) lock ≡ true)
       → ((act : Activity) (s : ℕ) → request c ≡ asks act s → B s .activity ≡ act) → e′ ≤ p → Ok n A e p c → Ok n B e′ p c
   ok-less less waits rear o = record {
-      rear = rear;
-      top = o .top;
-      low = o .low;
-      high = o .high;
-      waits = waits;
-      way = λ t r k h. o .way t r k (less k (t .lock) h);
-      note = o .note;
-    }
+    rear = rear;
+    top = o .top;
+    low = o .low;
+    high = o .high;
+    waits = waits;
+    way = λ t r k h. o .way t r k (less k (t .lock) h);
+    note = o .note;
+  }
 
   -- a car that asks for nothing may stand anywhere in the order of homes
   up-silent : {b p b₁ : ℕ} {c : Car} → Silent c → b ≤ b₁ → Up n b p c b₁
@@ -84,14 +84,14 @@ module _ (n : ℕ) where
   -- a car that asks for nothing is in order on the train, where its notice has passed its node
   ok-silent : {A : ℕ → Node} {e p : ℕ} {c : Car} → Silent c → e ≤ p → p ≤ n → noticed c ≤ p → Ok n A e p c
   ok-silent silent rear top note = record {
-      rear = rear;
-      top = top;
-      low = λ act s r. absurd (silent act s r);
-      high = λ act s r. absurd (silent act s r);
-      waits = λ act s r. absurd (silent act s r);
-      way = λ t r. absurd (silent _ _ (ap request r));
-      note = note;
-    }
+    rear = rear;
+    top = top;
+    low = λ act s r. absurd (silent act s r);
+    high = λ act s r. absurd (silent act s r);
+    waits = λ act s r. absurd (silent act s r);
+    way = λ t r. absurd (silent _ _ (ap request r));
+    note = note;
+  }
 
   -- other cells behind, with no new didv for a lock and no new reqp, and no new node that has it
   did-on : (X Y Z : List Cell) (A B : ℕ → Node) (lock : ℕ) → (NoDid n lock Y → NoDid n lock Z) → (Late n lock Y → Late n lock Z)
@@ -102,18 +102,19 @@ module _ (n : ℕ) where
   shrinks : (T : List Cell) {A : ℕ → Node} {e : ℕ} (q : ℕ) (v : Node) → ((lock : ℕ) → had v lock ≡ true → had (A q) lock ≡ true) → Serves q v T → Apart v
       → Words (put A q v) T → Inv n e T A → Inv n e T (put A q v)
   shrinks T {A} {e} q v fewer serves apart words i = record {
-      all = all-both T (λ p c f o. ok-less less (waits f o) (o .rear) o) serves (i .all);
-      order = i .order;
-      low = λ k lock h. i .low k lock (less k lock h);
-      high = λ k lock h. i .high k lock (less k lock h);
-      apart = put-apart A q v apart (i .apart);
-      one = λ lock j k h g. i .one lock j k (less j lock h) (less k lock g);
-      did = λ lock. ⊎-elim (λ no. inl no) (λ r. inr (λ k h. r .0 k (less k lock h), r .1)) (i .did lock);
-      words = words;
-    }
+    all = all-both T (λ p c f o. ok-less less (waits f o) (o .rear) o) serves (i .all);
+    order = i .order;
+    low = λ k lock h. i .low k lock (less k lock h);
+    high = λ k lock h. i .high k lock (less k lock h);
+    apart = put-apart A q v apart (i .apart);
+    one = λ lock j k h g. i .one lock j k (less j lock h) (less k lock g);
+    did = λ lock. ⊎-elim (λ no. inl no) (λ r. inr (λ k h. r .0 k (less k lock h), r .1)) (i .did lock);
+    words = words;
+  }
     where
       less : (k lock : ℕ) → had (put A q v k) lock ≡ true → had (A k) lock ≡ true
       less = put-less A q v fewer
+
       waits : {p : ℕ} {c : Car} → ((act : Activity) → request c ≡ asks act q → v .activity ≡ act) → Ok n A e p c
           → (act : Activity) (s : ℕ) → request c ≡ asks act s → put A q v s .activity ≡ act
       waits {p} {c} f o act s e =
@@ -138,39 +139,47 @@ module _ (n : ℕ) where
       → Bare Y → Gates (λ lo hi. hi < q) Y → e ≤ q → All (λ p c. q ≤ p) X
       → Inv n e (X ++ Y) A → Inv n q (X ++ (cell q (Didv x) ∷ Y)) (put A q v)
   adds-did X Y {A} {e} q v x source was gone same act apart bare gates le far i = record {
-      all = all-join (Ok n B q) X new
+    all = all-join (Ok n B q) X new
         (all-both X (λ p c o f. ok-less less (λ a s r. put-active s ∙ o .waits a s r) f o) oks far)
         (ok-silent none-asks (le-refl q) (i .high q (x .lock) was) (omega arith), all-bare _ Y bare);
-      order = rises-to n (omega arith) (rises-tail n X Y new (λ a r. r-cell a (up-silent none-asks (le-refl a)) r) (i .order));
-      low = λ k lock h. i .low k lock (less k lock h);
-      high = λ k lock h. i .high k lock (less k lock h);
-      apart = put-apart A q v apart (i .apart);
-      one = λ lock j k h g. i .one lock j k (less j lock h) (less k lock g);
-      did = λ lock. by-number (λ l. Did n l (X ++ new) B) (x .lock) lock (inr (away, late))
+    order = rises-to n (omega arith) (rises-tail n X Y new (λ a r. r-cell a (up-silent none-asks (le-refl a)) r) (i .order));
+    low = λ k lock h. i .low k lock (less k lock h);
+    high = λ k lock h. i .high k lock (less k lock h);
+    apart = put-apart A q v apart (i .apart);
+    one = λ lock j k h g. i .one lock j k (less j lock h) (less k lock g);
+    did = λ lock. by-number (λ l. Did n l (X ++ new) B) (x .lock) lock (inr (away, late))
         (λ other. did-on X Y new A B lock (λ no. (λ y r s. other (cc), no)) (λ l. (λ t r. absurd (none-asks _ _ (ap request r)), l))
         (λ k. less k lock) (i .did lock));
-      words = words-tail X Y new bits (words-before Y A q v gates) (i .words);
-    }
+    words = words-tail X Y new bits (words-before Y A q v gates) (i .words);
+  }
     where
       B : ℕ → Node
       B = put A q v
+
       new : List Cell
       new = cell q (Didv x) ∷ Y
+
       oks : All (Ok n A e) X
       oks = all-split (Ok n A e) X Y (i .all) .0
+
       less : (k lock : ℕ) → had (B k) lock ≡ true → had (A k) lock ≡ true
       less = put-less A q v (λ lock. by-number (λ l. had v l ≡ true → had (A q) l ≡ true) (x .lock) lock (λ h. was) (λ other h. sym (same lock other) ∙ h))
+
       put-active : (s : ℕ) → B s .activity ≡ A s .activity
       put-active s = put-case (λ u. u .activity ≡ A s .activity) A q v s (λ here. subst (λ j. v .activity ≡ A j .activity) (sym here) act) (λ there. refl)
+
       away : (k : ℕ) → had (B k) (x .lock) ≡ true → ⊥
       away k = put-case (λ u. had u (x .lock) ≡ true → ⊥) A q v k (λ here h. false≢true (sym gone ∙ h)) (λ there h. there (i .one (x .lock) k q h was))
+
       -- a reqp for the lock in front has still to visit node q: it does so with the next train
       next : (p : ℕ) (c : Car) → Ok n A e p c → q ≤ p → (t : Tag) → c ≡ Reqp t → t .lock ≡ x .lock → n < home n p (t .source)
       next p c o f t r s =
           ⊎-elim (λ z. absurd (omega arith)) (λ z. omega (arith, i .low q (x .lock) was)) (o .way t r q (subst (λ l. had (A q) l ≡ true) (sym s) was))
+
       late : Late n (x .lock) (X ++ new)
       late = all-join _ X new (all-both X next oks far)
           (λ t r. absurd (none-asks _ _ (ap request r)), all-bare _ Y bare)
+
       bits : (lo hi lock : ℕ) (b : Bool) → Right A lo hi lock (fold lo hi lock b Y) → Right B lo hi lock (fold lo hi lock b new)
       bits lo hi lock b r =
           mine-case (λ m. Right B lo hi lock (fold lo hi lock (cond m false b) Y)) lo hi lock x
@@ -195,15 +204,19 @@ module _ (n : ℕ) where
     where
       ok : Ok n A e p (Reqp t)
       ok = all-split (Ok n A e) X (cell p (Reqp t) ∷ Y) (i .all) .1 .0
+
       back : home n p (t .source) ≡ t .source
       back = home-old n p (t .source) (omega arith)
+
       own : (p < k) × (k ≤ home n p (t .source)) → ⊥
       own z = false≢true (sym free ∙ subst (λ j. had (A j) (t .lock) ≡ true) same h)
         where
           same : k ≡ t .source
           same = omega (arith, back)
+
           free : had (A (t .source)) (t .lock) ≡ false
           free = i .apart (t .source) .wish (t .lock) (subst (λ a. Names a (t .lock)) (sym (ok .waits _ _ refl)) refl)
+
       far : k + n ≤ home n p (t .source) → ⊥
       far z = omega (arith, back, i .low k (t .lock) h, ok .high _ _ refl)
 
@@ -226,27 +239,28 @@ module _ (n : ℕ) where
     where
       back : home n p (t .source) ≡ suc p
       back = home-old n p (t .source) (omega arith) ∙ source
+
       go : (m : ℕ) → All (λ q c. (act : Activity) (s : ℕ) → request c ≡ asks act s → home n q s ≤ m) X → Rises n m (cell p (Reqp t) ∷ Y) d
           → All (λ q c. Silent c) X × Beyond (suc p) Y
       go m front (r-cell b₁ up rest) = (
-          all-both X (λ q c f reached act s a. omega (arith, f act s a, up .over _ _ refl, home-least (suc p) q s reached top, back)) front far,
-          all-map Y (λ q c f act s a. omega (arith, f act s a, up .under _ _ refl, back)) (rises-over n rest),
-        )
+        all-both X (λ q c f reached act s a. omega (arith, f act s a, up .over _ _ refl, home-least (suc p) q s reached top, back)) front far,
+        all-map Y (λ q c f act s a. omega (arith, f act s a, up .under _ _ refl, back)) (rises-over n rest),
+      )
 
   -- a car that has not reached node p + 1, and whose request goes on beyond it, stays in order whatever that node becomes
   behind : (A : ℕ → Node) {e p q : ℕ} {c : Car} (v : Node) → q ≤ p → ((act : Activity) (s : ℕ) → request c ≡ asks act s → suc p < home n q s)
       → Ok n A e q c → Ok n (put A (suc p) v) e q c
   behind A {p = p} {q = q} v near beyond o = record {
-      rear = o .rear;
-      top = o .top;
-      low = o .low;
-      high = o .high;
-      waits = λ act s r. put-case (λ u. u .activity ≡ act) A (suc p) v s
+    rear = o .rear;
+    top = o .top;
+    low = o .low;
+    high = o .high;
+    waits = λ act s r. put-case (λ u. u .activity ≡ act) A (suc p) v s
         (λ here. absurd (omega (arith, beyond act s r, home-old n q s (omega arith)))) (λ there. o .waits act s r);
-      way = λ t r k. put-case (λ u. had u (t .lock) ≡ true → Visits n k q (home n q (t .source))) A (suc p) v k
+    way = λ t r k. put-case (λ u. had u (t .lock) ≡ true → Visits n k q (home n q (t .source))) A (suc p) v k
         (λ here h. inl (omega arith, omega (arith, beyond _ _ (ap request r)))) (λ there. o .way t r k);
-      note = o .note;
-    }
+    note = o .note;
+  }
 
   -- node p + 1's own reqp comes back to it: it is granted the lock, and sends null where there is no gate, else the gotp
   pub grants : (X Y : List Cell) {A : ℕ → Node} {e : ℕ} (p : ℕ) (v : Node) (c′ : Car) (t : Tag) → t .source ≡ suc p → suc p ≤ n
@@ -256,48 +270,60 @@ module _ (n : ℕ) where
       → All (λ q c. suc p ≤ q) X → All (λ q c. q ≤ p) Y → Gates (λ lo hi. hi ≤ p) Y
       → Inv n e (X ++ (cell p (Reqp t) ∷ Y)) A → Inv n e (X ++ (cell (suc p) c′ ∷ Y)) (put A (suc p) v)
   grants X Y {A} {e} p v c′ t source top kind has-it same apart far near gates i = record {
-      all = all-join (Ok n B e) X new (all-both X (λ q c o f. ok-silent f (o .rear) (o .top) (o .note)) (oks .0) (asking .0))
+    all = all-join (Ok n B e) X new (all-both X (λ q c o f. ok-silent f (o .rear) (o .top) (o .note)) (oks .0) (asking .0))
         (ok-silent silent (omega (arith, oks .1 .0 .rear)) top note, all-both Y (λ q c f o. f o) (all-both Y (λ q c. behind A v) near (asking .1)) (oks .1 .1));
-      order = rises-tail n X old new renew (i .order);
-      low = λ k lock. put-case (λ u. had u lock ≡ true → 1 ≤ k) A (suc p) v k (λ here h. omega arith) (λ there. i .low k lock);
-      high = λ k lock. put-case (λ u. had u lock ≡ true → k ≤ n) A (suc p) v k (λ here h. omega arith) (λ there. i .high k lock);
-      apart = put-apart A (suc p) v apart (i .apart);
-      one = λ lock j k. by-number (λ l. had (B j) l ≡ true → had (B k) l ≡ true → j ≡ k) (t .lock) lock (λ h g. only j h ∙ sym (only k g))
+    order = rises-tail n X old new renew (i .order);
+    low = λ k lock. put-case (λ u. had u lock ≡ true → 1 ≤ k) A (suc p) v k (λ here h. omega arith) (λ there. i .low k lock);
+    high = λ k lock. put-case (λ u. had u lock ≡ true → k ≤ n) A (suc p) v k (λ here h. omega arith) (λ there. i .high k lock);
+    apart = put-apart A (suc p) v apart (i .apart);
+    one = λ lock j k. by-number (λ l. had (B j) l ≡ true → had (B k) l ≡ true → j ≡ k) (t .lock) lock (λ h g. only j h ∙ sym (only k g))
         (λ other h g. i .one lock j k (less lock other j h) (less lock other k g));
-      did = λ lock. by-number (λ l. Did n l (X ++ new) B) (t .lock) lock (inl (all-tail _ X old new (λ z. (λ x r. absurd (no-didv x r), z .1)) clear))
+    did = λ lock. by-number (λ l. Did n l (X ++ new) B) (t .lock) lock (inl (all-tail _ X old new (λ z. (λ x r. absurd (no-didv x r), z .1)) clear))
         (λ other. did-on X old new A B lock (λ z. (λ x r. absurd (no-didv x r), z .1)) (λ z. (λ s r. absurd (silent _ _ (ap request r)), z .1))
         (less lock other) (i .did lock));
-      words = ⊎-elim (λ z. words-none (X ++ new) B (gates-join _ X new (z .1) (z .2))) (λ z. subst (λ c. Words B (X ++ (cell (suc p) c ∷ Y))) (sym (z .1))
+    words = ⊎-elim (λ z. words-none (X ++ new) B (gates-join _ X new (z .1) (z .2))) (λ z. subst (λ c. Words B (X ++ (cell (suc p) c ∷ Y))) (sym (z .1))
         (words-tail X old (cell (suc p) (Gotp (z .0)) ∷ Y) (bits (z .0) (z .2) (z .3)) (words-before Y A (suc p) v (gates-map Y (λ lo hi h. omega arith) gates))
         (i .words))) kind;
-    }
+  }
     where
       B : ℕ → Node
       B = put A (suc p) v
+
       old : List Cell
       old = cell p (Reqp t) ∷ Y
+
       new : List Cell
       new = cell (suc p) c′ ∷ Y
+
       silent : Silent c′
       silent = ⊎-elim (λ z. subst Silent (sym (z .0)) none-asks) (λ z. subst Silent (sym (z .1)) none-asks) kind
+
       no-didv : (x : Notice) → c′ ≡ Didv x → ⊥
       no-didv x r = ⊎-elim (λ z. false≢true (cc (z .0))) (λ z. false≢true (cc (z .1))) kind
+
       note : noticed c′ ≤ suc p
       note =
           ⊎-elim (λ z. subst (λ c. noticed c ≤ suc p) (sym (z .0)) (omega arith))
           (λ z. subst (λ c. noticed c ≤ suc p) (sym (z .1)) (omega (arith, z .2))) kind
+
       oks : All (Ok n A e) X × All (Ok n A e) old
       oks = all-split (Ok n A e) X old (i .all)
+
       asking : All (λ q c. Silent c) X × Beyond (suc p) Y
       asking = alone X Y p t source top far (i .order)
+
       clear : NoDid n (t .lock) (X ++ old)
       clear = no-did X Y p t source top i
+
       renew : (a : ℕ) → Rises n a old (n + e) → Rises n a new (n + e)
       renew a (r-cell b₁ up r) = r-cell b₁ (up-silent silent (up .on)) r
+
       only : (k : ℕ) → had (B k) (t .lock) ≡ true → k ≡ suc p
       only k = put-case (λ u. had u (t .lock) ≡ true → k ≡ suc p) A (suc p) v k (λ here h. here) (λ there h. absurd (nobody X Y p t source i k h))
+
       less : (lock : ℕ) → (lock ≡ t .lock → ⊥) → (k : ℕ) → had (B k) lock ≡ true → had (A k) lock ≡ true
       less lock other k h = sym (put-same A (suc p) v lock k (λ here. same lock other)) ∙ h
+
       bits : (x : Notice) → x .source ≡ suc p → x .lock ≡ t .lock → (lo hi lock : ℕ) (b : Bool)
           → Right A lo hi lock (fold lo hi lock b old) → Right B lo hi lock (fold lo hi lock b (cell (suc p) (Gotp x) ∷ Y))
       bits x own at-lock lo hi lock b r =

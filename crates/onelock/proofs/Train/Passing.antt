@@ -39,8 +39,8 @@ module _ (n : ℕ) (A : ℕ → Node) (k h : ℕ) (wide : k ≤ h) (top : h ≤ 
         homes = home-past;
         reqp = λ t r. r;
         visits = λ t r q g v.
-          subst (Visits n q h) (sym (home-past (WaitingReqp (t .lock)) (t .source) (ap request r)))
-          (visit-past q (home n k (t .source)) (λ low high. free t r q low high g) v);
+            subst (Visits n q h) (sym (home-past (WaitingReqp (t .lock)) (t .source) (ap request r)))
+            (visit-past q (home n k (t .source)) (λ low high. free t r q low high g) v);
         note = omega arith;
         bits = λ lo hi lock b. refl;
         did = λ x r. r;

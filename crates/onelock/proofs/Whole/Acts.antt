@@ -58,9 +58,10 @@ put-change A q f i u e = go (eqb i q) refl
 agrees-change : (A : ℕ → Node) (q : ℕ) (f : Node → Node) (k : ℕ) (l : Line) → Agrees A k l → Agrees (put A q (f (A q))) k (change q f k l)
 agrees-change A q f k end x = tt
 agrees-change A q f k (user u r) x = (put-change A q f (suc k) u (x .0), agrees-change A q f (suc k) r (x .1))
-agrees-change A q f k (junction j s r) x =
-    (agrees-change A q f k s (x .0),
-     subst (λ i. Agrees (put A q (f (A q))) (k + i) (change q f (k + size s) r)) (sym (size-change q f k s)) (agrees-change A q f (k + size s) r (x .1)))
+agrees-change A q f k (junction j s r) x = (
+  agrees-change A q f k s (x .0),
+  subst (λ i. Agrees (put A q (f (A q))) (k + i) (change q f (k + size s) r)) (sym (size-change q f k s)) (agrees-change A q f (k + size s) r (x .1)),
+)
 
 -- a user's line fits where another node sends the same
 user-at : {p q o : Phase} {w : Bool} {lo hi k : ℕ} {r : Line} {G : List Cell} (u v : Node) → v .car ≡ u .car → v .flag ≡ u .flag
@@ -203,6 +204,7 @@ module _ (m n : ℕ) where
     where
       none : ℕ → ℕ → Type 0
       none lo hi = ⊥
+
       sent : List Cell
       sent = cells (startPhase (x .tail)) 0 z
 
@@ -230,7 +232,7 @@ module _ (m n : ℕ) where
         };
         rear = x .rear;
         inv = act-inv n m action _ q lock (node-at Small (x .ring .nodes) q 0 l (x .ring .agrees) small low (omega (arith, x .ring .total))) accepted
-          (⊎-elim (λ multi. inl multi) (λ users. inr (whole-gateless z queue l x users)) (x .ring .mode)) (x .inv);
+            (⊎-elim (λ multi. inl multi) (λ users. inr (whole-gateless z queue l x users)) (x .ring .mode)) (x .inv);
       }
     where
       act : Node → Node

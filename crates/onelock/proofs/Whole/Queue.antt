@@ -76,8 +76,12 @@ module _ (n : ℕ) where
   both-short X Q [] asking kept i = omega (arith, sent-short (cell n Token ∷ X) Q asking i)
   both-short X Q (c ∷ R) asking kept i =
       let collected = rises-split n (cell n Token ∷ []) (at n (c ∷ R) ++ (X ++ at 0 Q)) (i .order) .back in
-      omega (arith, i .all .0 .rear, rises-count n (length Q) (c ∷ R) (X ++ at 0 Q) kept (λ a r. rises-tail-count 0 X Q asking r)
-          (rises-high c (at n R ++ (X ++ at 0 Q)) (kept-asks c (kept .0) (kept .1)) (i .all .1 .0) collected))
+      omega (
+        arith,
+        i .all .0 .rear,
+        rises-count n (length Q) (c ∷ R) (X ++ at 0 Q) kept (λ a r. rises-tail-count 0 X Q asking r)
+            (rises-high c (at n R ++ (X ++ at 0 Q)) (kept-asks c (kept .0) (kept .1)) (i .all .1 .0) collected),
+      )
 
   -- so the queue is short, the token in it or not
   queue-short : {e : ℕ} {A : ℕ → Node} {o : Phase} (X : List Cell) (Q R : List Car) → Requests Q → Ends o R
@@ -89,8 +93,12 @@ module _ (m n : ℕ) (z : Car) (queue : List Car) (l : Line) (x : Whole m n z qu
   -- the queue of the whole ring
   pub whole-queue : length queue ≤ n + 1
   whole-queue =
-      omega (arith, ap length (x .split) ∙ length-append (x .tail) (x .rest), queue-short n (x .front ++ first) (x .tail) (x .rest) (x .asking) (x .ends)
-          (subst (λ (L : List Cell). Inv n (x .rear) (at n (x .rest) ++ L) (x .ring .nodes)) (sym (append-assoc (x .front) first (at 0 (x .tail)))) (x .inv)))
+      omega (
+        arith,
+        ap length (x .split) ∙ length-append (x .tail) (x .rest),
+        queue-short n (x .front ++ first) (x .tail) (x .rest) (x .asking) (x .ends)
+            (subst (λ (L : List Cell). Inv n (x .rear) (at n (x .rest) ++ L) (x .ring .nodes)) (sym (append-assoc (x .front) first (at 0 (x .tail)))) (x .inv)),
+      )
     where
       first : List Cell
       first = cells (startPhase (x .tail)) 0 z

@@ -103,18 +103,21 @@ ready-user : (A : ℕ → Node) {w f : Bool} {p q o : Phase} {lo hi : ℕ} (k : 
     → Clean lo hi p a → lo ≤ k → k < hi → Apart u → A (suc k) ≡ u → All (Finds A) (cells p k a) → Ready A (suc k) a u
 ready-user A {w} {f} {p} {q} k a u one next clean low high apart here finds =
     record {
-      there = astray-not u (suc k) a apart (λ act e.
-          (live-flag (live act e) (subst (λ (d : Kind). One w p d f q) (request-car a e) one) next,
-            active act e));
+      there = astray-not u (suc k) a apart (λ act e. (
+        live-flag (live act e) (subst (λ (d : Kind). One w p d f q) (request-car a e) one) next,
+        active act e,
+      ));
       back = λ t e source.
-        let asked = ap request e ∙ ap (asks (WaitingReqp (t .lock))) source in
-        (active (WaitingReqp (t .lock)) asked, found (WaitingReqp (t .lock)) asked .free t e source);
+          let asked = ap request e ∙ ap (asks (WaitingReqp (t .lock))) source in
+          (active (WaitingReqp (t .lock)) asked, found (WaitingReqp (t .lock)) asked .free t e source);
     }
   where
     live : (act : Activity) → request a ≡ asks act (suc k) → Come p
     live act e b = clean b act (suc k) e (omega arith) high
+
     found : (act : Activity) → request a ≡ asks act (suc k) → Finds A k a
     found act e = subst (All (Finds A)) (live-cell p k a (live act e) (car-real (request-car a e))) finds .0
+
     active : (act : Activity) → request a ≡ asks act (suc k) → u .activity ≡ act
     active act e = sym (ap (λ v. v .activity) here) ∙ found act e .waits act (suc k) e
 
@@ -124,24 +127,27 @@ ready-line : (A : ℕ → Node) {w f : Bool} {p q o : Phase} {lo hi k : ℕ} (a 
     → All (Finds A) (cells p k a) → All (Finds A) G → Meets (Ready A) k a l
 ready-line A a apart one clean f-end low high agrees c g = tt
 ready-line A a apart one clean (f-user {k = k} {u = u} {r = r} {G = G} next clean-next rest) low high agrees c g =
-    let parts = all-split (Finds A) G _ g in
-    (ready-user A k a u one next clean low (omega arith) (subst Apart (agrees .0) (apart (suc k))) (agrees .0) c,
-      ready-line A (u .car) apart next clean-next rest (omega arith) (omega arith) (agrees .1) (parts .1) (parts .0))
+    let parts = all-split (Finds A) G _ g in (
+      ready-user A k a u one next clean low (omega arith) (subst Apart (agrees .0) (apart (suc k))) (agrees .0) c,
+      ready-line A (u .car) apart next clean-next rest (omega arith) (omega arith) (agrees .1) (parts .1) (parts .0),
+    )
 ready-line A a apart one clean (f-past {p = q} {k = k} {j = j} {s = s} {r = r} {G = G} tour train sub clean-sub inner calm main clean-main rest)
     low high agrees c g =
     let parts = all-split (Finds A) G _ g in
-    let here = all-split (Finds A) (cells q (k + size s) (j .main)) _ (parts .1) in
-    (ready-line A (j .subring) apart sub clean-sub inner (omega arith) (omega arith) (agrees .0) tt (here .1),
-      ready-line A (j .main) apart main clean-main rest (omega arith) (omega arith) (agrees .1) (here .0) (parts .0))
+    let here = all-split (Finds A) (cells q (k + size s) (j .main)) _ (parts .1) in (
+      ready-line A (j .subring) apart sub clean-sub inner (omega arith) (omega arith) (agrees .0) tt (here .1),
+      ready-line A (j .main) apart main clean-main rest (omega arith) (omega arith) (agrees .1) (here .0) (parts .0),
+    )
 ready-line A a apart one clean
     (f-tour {p₂ = p₂} {w = w} {lo = lo} {hi = hi} {k = k} {j = j} {s = s} {r = r} {G = G} {H = H} tour live sub inner out main rest)
     low high agrees c g =
     let parts = all-split (Finds A) G _ g in
     let here = all-split (Finds A) (cells p₂ (k + size s) (j .main)) _ (parts .1) in
-    let within = all-split (Finds A) H _ (here .1) in
-    (ready-line A (j .subring) apart (allow true sub) (one-clean k (k + size s) (j .subring) sub) inner (omega arith) (omega arith) (agrees .0)
-      (within .1) (within .0),
-      ready-line A (j .main) apart (allow w main) (one-clean lo hi (j .main) main) rest (omega arith) (omega arith) (agrees .1) (here .0) (parts .0))
+    let within = all-split (Finds A) H _ (here .1) in (
+      ready-line A (j .subring) apart (allow true sub) (one-clean k (k + size s) (j .subring) sub) inner (omega arith) (omega arith) (agrees .0)
+          (within .1) (within .0),
+      ready-line A (j .main) apart (allow w main) (one-clean lo hi (j .main) main) rest (omega arith) (omega arith) (agrees .1) (here .0) (parts .0),
+    )
 
 module _ (m n : ℕ) (z : Car) (queue : List Car) (l : Line) (x : Whole m n z queue l) where
   -- each node of the whole ring is ready for what comes to it

@@ -96,7 +96,7 @@ still k (junction j s r) x =
       words =
           words-behind resting (on .front) (gate k (k + size s) 0 ∷ sub .front) (sub .bare)
           (empty-exact k (k + size s) (sub .front) (sub .bare), sub .words)
-        (on .words);
+          (on .words);
     })
 
 module _ (m n : ℕ) where
@@ -118,7 +118,7 @@ module _ (m n : ℕ) where
   token-rises =
       let below : 0 ≤ n + 0 = omega arith in
       let up : Up n 0 0 Token 0 =
-          record { on = omega arith; over = λ act s r. absurd (true≢false (cc)); under = λ act s r. absurd (true≢false (cc)) } in
+      record { on = omega arith; over = λ act s r. absurd (true≢false (cc)); under = λ act s r. absurd (true≢false (cc)) } in
       r-cell 0 up (r-nil below)
 
   -- the invariant holds of the token behind all gates

@@ -81,7 +81,7 @@ module _ (m n : ℕ) where
         (record {
           ends = ends-in (c .0) ends (c .1);
           inv = drops n (at n rest) R n y (at-gates (λ lo hi. ⊥) n rest)
-            (subst (λ C. Inv n e (at n rest ++ (C ++ R)) A) (live-cell p n y (c .0) (car-real k)) i);
+              (subst (λ C. Inv n e (at n rest ++ (C ++ R)) A) (live-cell p n y (c .0) (car-real k)) i);
         })
 
     -- whatever the arrival is
@@ -146,8 +146,10 @@ module _ (m n : ℕ) where
     where
       new : ℕ → Node
       new = view 0 (stepLine m 0 z l) (x .ring .nodes)
+
       whole : 0 + size l ≡ n
       whole = omega (arith, x .ring .total)
+
       v : Moved m n false 0 n (startPhase (x .tail)) (x .first) 0 z l (x .last) (at n (x .rest)) (at 0 (x .tail)) (x .rear) (x .ring .nodes)
       v =
           line-move m n z l (x .front) (at n (x .rest)) (at 0 (x .tail)) same (x .sent) (x .fit)
@@ -187,13 +189,15 @@ module _ (m n : ℕ) where
         inv =
             subst (λ C. Inv n 0 (x .front ++ (C ++ at 0 collected)) (x .ring .nodes))
             (sym (come-cells (startPhase collected) 0 Token (start-there collected)))
-          (wraps n (Token ∷ collected) (x .front) (still .bare) (refl, requests-kept collected (back .1)) all-in);
+            (wraps n (Token ∷ collected) (x .front) (still .bare) (refl, requests-kept collected (back .1)) all-in);
       }
     where
       back : Come (x .old) × Requests collected
       back = ends-back (x .ends)
+
       still : Quiet 0 n after 0 l (x .front)
       still = quiet (x .fit) (came-quiet (x .last) (back .0))
+
       all-in : Inv n (x .rear) (at n (Token ∷ collected) ++ x .front) (x .ring .nodes)
       all-in =
           subst₂ (λ C G. Inv n (x .rear) (at n (Token ∷ collected) ++ (C ++ G)) (x .ring .nodes)) (gap-cells (x .phase) n Idle refl) (append-nil (x .front))
@@ -217,11 +221,12 @@ module _ (m n : ℕ) where
         ring = x .ring;
         rear = x .rear;
         inv = subst (λ C. Inv n (x .rear) (at n (rest ++ kept y) ++ (x .front ++ (C ++ at 0 tail))) (x .ring .nodes)) (sym there)
-          (after-it .inv);
+            (after-it .inv);
       }
     where
       after-it : Appended (x .phase) (rest ++ kept y) (x .rear) (x .front ++ at 0 (c ∷ tail)) (x .ring .nodes)
       after-it = appends rest (x .front ++ at 0 (c ∷ tail)) (x .ends) y (x .last) (x .inv)
+
       there : cells (startPhase tail) 0 c ≡ cell 0 c ∷ []
       there = live-cell (startPhase tail) 0 c (start-there tail) (car-real (x .asking .0))
 

@@ -90,21 +90,23 @@ words-line A R (f-user {p = p} {k = k} {u = u} {G = G} one clean rest) told far 
 words-line A R (f-past {p = p} {k = k} {j = j} {s = s} {G = G} {H = H} tour train sub clean-sub inner calm main clean rest) told far words =
     let h = k + size s in
     let C = cells p h (j .main) in
-    let x = at-gate A k h (j .word) G C H R (omega arith) (cells-all (λ p c. p ≤ h) p h (j .main) (omega arith)) (fit-places inner .high) told far words in
-    (true-word A k j s (H ++ R) (all-join (λ p c. noticed c ≤ k) H R (all-bare (λ p c. noticed c ≤ k) H (shaded inner refl .bare)) far) (x .exact),
+    let x = at-gate A k h (j .word) G C H R (omega arith) (cells-all (λ p c. p ≤ h) p h (j .main) (omega arith)) (fit-places inner .high) told far words in (
+      true-word A k j s (H ++ R) (all-join (λ p c. noticed c ≤ k) H R (all-bare (λ p c. noticed c ≤ k) H (shaded inner refl .bare)) far) (x .exact),
       words-line A R inner (x .told-inside) far (x .words-inside),
-      words-line A ((C ++ (gate k h (j .word) ∷ H)) ++ R) rest (x .told) (x .far) (x .words))
+      words-line A ((C ++ (gate k h (j .word) ∷ H)) ++ R) rest (x .told) (x .far) (x .words),
+    )
 words-line A R (f-tour {p = p} {p₂ = p₂} {k = k} {j = j} {s = s} {G = G} {H = H} tour live sub inner out main rest) told far words =
     let h = k + size s in
     let C = cells p₂ h (j .main) in
     let S = cells p k (j .subring) in
     let x = at-gate A k h (j .word) G C (H ++ S) R (omega arith) (cells-all (λ p c. p ≤ h) p₂ h (j .main) (omega arith))
-          (all-join (λ p c. p ≤ h) H S (fit-places inner .high) (cells-all (λ p c. p ≤ h) p k (j .subring) (omega arith))) told far words in
-    let parts = all-split (λ p c. noticed c ≤ p) H S (x .told-inside) in
-    (touring-word A k j s tour,
+    (all-join (λ p c. p ≤ h) H S (fit-places inner .high) (cells-all (λ p c. p ≤ h) p k (j .subring) (omega arith))) told far words in
+    let parts = all-split (λ p c. noticed c ≤ p) H S (x .told-inside) in (
+      touring-word A k j s tour,
       words-line A (S ++ R) inner (parts .0) (far-join k k S R (omega arith) (cells-all (λ p c. p ≤ k) p k (j .subring) (omega arith)) (parts .1) far)
-      (subst (Words A) (append-assoc H S R) (x .words-inside)),
-      words-line A ((C ++ (gate k h (j .word) ∷ (H ++ S))) ++ R) rest (x .told) (x .far) (x .words))
+          (subst (Words A) (append-assoc H S R) (x .words-inside)),
+      words-line A ((C ++ (gate k h (j .word) ∷ (H ++ S))) ++ R) rest (x .told) (x .far) (x .words),
+    )
 
 module _ (m n : ℕ) (z : Car) (queue : List Car) (l : Line) (x : Whole m n z queue l) where
   -- the word of each of the ring's junctions is true
@@ -115,14 +117,18 @@ module _ (m n : ℕ) (z : Car) (queue : List Car) (l : Line) (x : Whole m n z qu
     where
       A : ℕ → Node
       A = x .ring .nodes
+
       first : List Cell
       first = cells (startPhase (x .tail)) 0 z
+
       sent : List Cell
       sent = first ++ at 0 (x .tail)
+
       near : All (λ p c. p ≤ 0) sent
       near =
           all-join (λ p c. p ≤ 0) first (at 0 (x .tail)) (cells-all (λ p c. p ≤ 0) (startPhase (x .tail)) 0 z (omega arith))
           (at-all (λ p c. p ≤ 0) 0 (λ c. omega arith) (x .tail))
+
       line : All (λ p c. noticed c ≤ p) (x .front) × All (λ p c. noticed c ≤ p) sent
       line =
           all-split (λ p c. noticed c ≤ p) (x .front) sent
