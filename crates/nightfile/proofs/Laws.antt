@@ -13,7 +13,7 @@ use borrow.Author.Tests.{eqb-true, ltb-false, not-false}
 use Rattle.lists.specs.Refusal.{refusedIf}
 use Rattle.lists.proofs.Laws.{and-right}
 use Rattle.plan.specs.Plan.{inRange}
-use Rattle.nightfile.specs.File.{byteAt, lengthWrong, entryAt, entryLength, scheduleStart, contentsRight, planBody, scheduleBody, planLengthWrong, planOf, scheduleNumber, bodiesNumber, fileNumber, ifAccepted, planPart, schedulePart}
+use Rattle.nightfile.specs.File.{byteAt, lengthWrong, entryAt, entryLength, scheduleStart, contentsRight, planBody, scheduleBody, planLengthWrong, planOf, scheduleNumber, bodiesNumber, fileNumber, ifAccepted, planPart}
 
 -- a byte past the end is 0, with zeros written there or not
 padded-at : (bytes : List ℕ) (n at : ℕ) → getD (bytes ++ replicate n 0) at 0 ≡ getD bytes at 0
@@ -110,7 +110,3 @@ accepted file e =
 pub plan-shown : (file : List ℕ) → fileNumber file ≡ 0 → planPart file ≡ planBody file
 unfolding planPart ifAccepted
 plan-shown file e = rw e
-
-pub schedule-shown : (file : List ℕ) → fileNumber file ≡ 0 → schedulePart file ≡ scheduleBody file
-unfolding schedulePart ifAccepted
-schedule-shown file e = rw e

@@ -3,7 +3,6 @@ use Prim.Native.Nat.{ℕ, _+_, _-_, _*_, _/_, _%_, _≤_, _<_}
 use mathlib.Core.Path.{_≡_, refl}
 use mathlib.Core.Bool.{Bool, true, false, cond}
 use mathlib.Core.List.{List, []}
-use native.Mathlib.Nat.{le-refl}
 use native.Mathlib.Omega.{arith}
 use lib.Dec.{eqb}
 use lib.ListN.{length}
@@ -46,9 +45,6 @@ reads-on schedule k e below =
 pub reads-past : (schedule : List ℕ) (at : ℕ) → length schedule ≤ at → readAt schedule at ≡ reading NoMore at
 unfolding readAt
 reads-past schedule at past = simp (le-leb _ _ past)
-
-pub reads-end : (schedule : List ℕ) → readAt schedule (length schedule) ≡ reading NoMore (length schedule)
-reads-end schedule = reads-past schedule (length schedule) (le-refl _)
 
 -- the schedule's part of any file is such a schedule: that of a refused file is empty
 empty-right : scheduleNumber [] ≡ 0

@@ -6,7 +6,7 @@ use native.Mathlib.Omega.{arith}
 use lib.Dec.{eqb, leb, lit≤, eqb·suc-zero}
 use borrow.Author.Tests.{leb-true}
 use Rattle.lists.specs.Loops.{every}
-use Rattle.lists.proofs.Laws.{and-left, and-right, every-at, total-none, total-more, total-at-most, total-monotone, total-within}
+use Rattle.lists.proofs.Laws.{and-left, and-right, every-at, total-none, total-more, total-at-most, total-within}
 use Rattle.cars.specs.Cars.{multiring}
 use Rattle.plan.specs.declared.Plan.{Plan}
 use Rattle.plan.specs.Plan.{valueAt, valueInRange, placeInRange, headsInRange, inRange, sizeOf, junctionsOf, nodesBefore, junctionsBefore, nodeCount, junctionCount}
@@ -67,16 +67,11 @@ value-at-most plan n place e below =
     leb-true (valueAt plan place) 4
     (and-left (leb (valueAt plan place) 4) (multiring (plan .rules) || eqb (valueAt plan place) 0) (every-at (placeInRange plan) n place e below))
 
--- a value at most 4 has at most 4 user nodes, and any value has at least one
+-- a value at most 4 has at most 4 user nodes
 size-most : (value : ℕ) → value ≤ 4 → sizeOf value ≤ 4
 unfolding sizeOf
 size-most zero h = lit≤ tt
 size-most (suc value) h = rw eqb·suc-zero h
-
-size-least : (value : ℕ) → 1 ≤ sizeOf value
-unfolding sizeOf
-size-least zero = lit≤ tt
-size-least (suc value) = rw eqb·suc-zero (omega arith)
 
 -- a value has at most one junction
 one-junction : (value : ℕ) → junctionsOf value ≤ 1
@@ -84,7 +79,7 @@ unfolding junctionsOf
 one-junction zero = lit≤ tt
 one-junction (suc value) = rw eqb·suc-zero (lit≤ tt)
 
--- the user nodes of no position, of one position more, of more positions, and of positions in range
+-- the user nodes of no position, of one position more, and of positions in range
 pub nodes-none : (plan : Plan) → nodesBefore plan 0 ≡ 0
 unfolding nodesBefore
 nodes-none plan = total-none _
@@ -92,10 +87,6 @@ nodes-none plan = total-none _
 pub nodes-more : (plan : Plan) (n : ℕ) → nodesBefore plan (n + 1) ≡ nodesBefore plan n + sizeOf (valueAt plan n)
 unfolding nodesBefore
 nodes-more plan n = total-more _ n
-
-pub nodes-monotone : (plan : Plan) (m n : ℕ) → m ≤ n → nodesBefore plan m ≤ nodesBefore plan n
-unfolding nodesBefore
-nodes-monotone plan m n le = total-monotone _ m n le
 
 pub nodes-at-most : (plan : Plan) (n : ℕ) → every (placeInRange plan) n ≡ true → nodesBefore plan n ≤ 4 * n
 unfolding nodesBefore
@@ -114,10 +105,6 @@ junctions-none plan = total-none _
 pub junctions-more : (plan : Plan) (n : ℕ) → junctionsBefore plan (n + 1) ≡ junctionsBefore plan n + junctionsOf (valueAt plan n)
 unfolding junctionsBefore
 junctions-more plan n = total-more _ n
-
-pub junctions-monotone : (plan : Plan) (m n : ℕ) → m ≤ n → junctionsBefore plan m ≤ junctionsBefore plan n
-unfolding junctionsBefore
-junctions-monotone plan m n le = total-monotone _ m n le
 
 pub junctions-at-most : (plan : Plan) (n : ℕ) → junctionsBefore plan n ≤ n
 unfolding junctionsBefore
@@ -145,8 +132,3 @@ pub junctions-count-most : (plan : Plan) → inRange plan ≡ true → junctionC
 junctions-count-most plan e =
     let range = in-range plan e in
     omega (arith, junctions-counted plan e, junctions-at-most plan (plan .positions))
-
-pub nodes-least : (plan : Plan) → inRange plan ≡ true → 1 ≤ nodeCount plan
-nodes-least plan e =
-    let range = in-range plan e in
-    omega (arith, counted plan e, size-least (valueAt plan 0), nodes-within plan (plan .positions) 0 (omega arith))

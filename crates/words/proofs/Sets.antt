@@ -9,7 +9,7 @@ use lib.Bits.{bitAnd, bitOr, bitXor, or-shr, xor-shr, and-shr, or-mod, xor-mod, 
 use lib.Count.{trailingZeros, under}
 use lib.Dec.{eqb, ltb, lit<, eqb·zero-suc, eqb·suc-zero, eqb·suc-suc}
 use lib.Pow.{pow-lt}
-use borrow.Author.Tests.{lt-ltb, le-ltb, ltb-true, eqb-true, eqb-false}
+use borrow.Author.Tests.{lt-ltb, le-ltb, eqb-true, eqb-false}
 use Rattle.words.specs.Words.{has, withLock, withoutLock, least}
 use Rattle.words.proofs.Bits.{has-above}
 
@@ -106,20 +106,11 @@ pub with-within : (locks word lock : ℕ) → lock < locks → word < 2 ^ locks 
 unfolding withLock
 with-within locks word lock l h = by-test (λ w. w < 2 ^ locks) (ltb lock 64) (λ e. or-lt locks word (2 ^ lock) h (pow-lt l)) (λ e. h)
 
--- setting any lock keeps a word below 2 ^ 64
-pub with-fits : (word lock : ℕ) → word < 2 ^ 64 → withLock word lock < 2 ^ 64
-unfolding withLock
-with-fits word lock h = by-test (λ w. w < 2 ^ 64) (ltb lock 64) (λ e. or-lt 64 word (2 ^ lock) h (pow-lt (ltb-true lock 64 e))) (λ e. h)
-
 -- clearing any lock keeps a word below 2 ^ locks
 pub without-within : (locks word lock : ℕ) → word < 2 ^ locks → withoutLock word lock < 2 ^ locks
 unfolding withoutLock
 without-within locks word lock h =
     by-test (λ w. w < 2 ^ locks) (ltb lock 64) (λ e. xor-lt locks word _ h (lt-of-le-of-lt (and-le-l word (2 ^ lock)) h)) (λ e. h)
-
--- clearing any lock keeps a word below 2 ^ 64
-pub without-fits : (word lock : ℕ) → word < 2 ^ 64 → withoutLock word lock < 2 ^ 64
-without-fits = without-within 64
 
 -- two words of n digits with the same locks are equal
 same-in : (n a b : ℕ) → a < 2 ^ n → b < 2 ^ n → ((k : ℕ) → k < n → has a k ≡ has b k) → a ≡ b
@@ -165,7 +156,3 @@ least-in (suc n) word (suc lock) =
 pub least-least : (word lock : ℕ) → lock < least word → has word lock ≡ false
 unfolding least
 least-least = least-in 64
-
--- the least lock of a word that is not empty is below 64
-pub least-below : (word : ℕ) → word < 2 ^ 64 → (word ≡ 0 → ⊥) → least word < 64
-least-below word h some = has-in 64 word (least word) h (least-member word h some)
