@@ -1,7 +1,7 @@
 -- Demand 3 of a night run: the sentences of specs/Corollaries, proved of every accepted file and every ceiling.
 use Prim.Native.Nat.{ℕ, _-_}
 use mathlib.Core.Path.{_≡_, refl, _∙_, ap, sym, subst}
-use mathlib.Core.List.{List, []}
+use mathlib.Core.List.{List, [], _∷_, _++_}
 use Rattle.plan.specs.Plan.{nodePlaces}
 use Rattle.ring.specs.declared.State.{State}
 use Rattle.ring.specs.State.{Told, startOf, startState}
@@ -14,8 +14,8 @@ use Rattle.run.specs.Outcomes.{outcomeOf, fileCourse, fileOutcome}
 use Rattle.run.proofs.Moves.{AtItems, course-items, withNext}
 use Rattle.onelock.specs.OneLock.{Item, step, act, afterItem, afterAll, reached, history}
 use Rattle.onelock.proofs.Theorems.{never-stuck}
-use Rattle.nightlock.specs.NightLock.{planIn, itemsIn, stepsAmong}
-use Rattle.nightlock.specs.Corollaries.{EveryStateIsReached, EachMoveIsAnItem, NoStepRefused, TheLinesAreTheHistory}
+use Rattle.nightlock.specs.NightLock.{planIn, itemsIn, stepsAmong, at-first, by-step, by-action}
+use Rattle.nightlock.specs.Corollaries.{EveryStateIsReached, EveryLineStands, NoStepRefused, TheLinesAreTheHistory}
 use Rattle.nightlock.proofs.Items.{plan-in-range, step-reached, act-reached, reached-more}
 use Rattle.nightlock.proofs.Deeds.{deedsFrom, deeds-history, tells-none}
 use Rattle.nightlock.proofs.Courses.{At, at-same, standing, Goes, none, goes-same, goes-telling, goes-items}
@@ -43,21 +43,30 @@ file-goes ceiling file e =
     (λ next. goes-items file r ceiling (itemsFrom schedule 0) (withNext run next) (at-same _ refl a))))
 
 -- each line stands where the items have brought the run
-pub every-state-is-reached : EveryStateIsReached
-every-state-is-reached ceiling file e = file-goes ceiling file e .each
+pub every-line-stands : EveryLineStands
+every-line-stands ceiling file e = file-goes ceiling file e .each
 
--- and each move of the run is one item more
-pub each-move-is-an-item : EachMoveIsAnItem
-unfolding reachedNext actionItem afterItem
-each-move-is-an-item file e run stands =
+-- the start is reached by no item, and each move of the run is one item more
+pub every-state-is-reached : EveryStateIsReached
+unfolding beginning startState planIn reached afterAll reachedNext actionItem afterItem
+every-state-is-reached file e _ at-first = record { items = []; is = rw (plan-in-range file e) }
+every-state-is-reached file e _ (by-step before way) =
+    let x = every-state-is-reached file e (before .state) way in
     let plan = planIn file in
-    let r = plan-in-range file e in
-    let done = stands .done in (
-      ap (λ (s : State). steppingSound s .state) (stands .state) ∙ ap (λ (t : StepTold). t .state) (step-reached plan r done) ∙ sym (reached-more plan done step),
-      λ action node lock.
-          ap (λ (s : State). actingSound action s node lock .state) (stands .state)
-          ∙ ap (λ (t : Told). t .state) (act-reached plan r done action node lock) ∙ sym (reached-more plan done (act action node lock)),
-    )
+    record {
+      items = x .items ++ (step ∷ []);
+      is = ap (λ (s : State). steppingSound s .state) (x .is)
+          ∙ ap (λ (t : StepTold). t .state) (step-reached plan (plan-in-range file e) (x .items)) ∙ sym (reached-more plan (x .items) step);
+    }
+every-state-is-reached file e _ (by-action action node lock before way) =
+    let x = every-state-is-reached file e (before .reached .state) way in
+    let plan = planIn file in
+    record {
+      items = x .items ++ (act action node lock ∷ []);
+      is = ap (λ (s : State). actingSound action s node lock .state) (x .is)
+          ∙ ap (λ (t : Told). t .state) (act-reached plan (plan-in-range file e) (x .items) action node lock)
+          ∙ sym (reached-more plan (x .items) (act action node lock));
+    }
 
 -- C of demand 3, for the run's own step
 pub no-step-refused : NoStepRefused

@@ -2,17 +2,15 @@
 use Prim.Native.Nat.{ℕ, _/_}
 use mathlib.Core.Path.{_≡_}
 use mathlib.Core.Bool.{false}
-use mathlib.Core.List.{List, [], _∷_, _++_}
+use mathlib.Core.List.{List, []}
 use lib.ListN.{length}
-use Rattle.acts.specs.declared.Action.{Action}
+use Rattle.ring.specs.declared.State.{State}
 use Rattle.ring.specs.Step.{steppingSound}
 use Rattle.nightfile.specs.File.{fileNumber, schedulePart}
-use Rattle.run.specs.declared.Run.{Run}
-use Rattle.run.specs.Standing.{reachedNext, actionItem}
 use Rattle.run.specs.Whole.{itemsFrom}
 use Rattle.run.specs.Outcomes.{fileCourse, fileOutcome}
-use Rattle.onelock.specs.OneLock.{Item, step, act, reached, history}
-use Rattle.nightlock.specs.NightLock.{planIn, itemsOf, Stands, EachSaid, reported, deedsOfAll}
+use Rattle.onelock.specs.OneLock.{Item, reached, history}
+use Rattle.nightlock.specs.NightLock.{planIn, itemsOf, PassesThrough, IsReached, Stands, EachSaid, reported, deedsOfAll}
 
 -- the items that a run goes by are all items of its schedule, also those whose steps are summed
 abbrev pub AllItems : Type 0
@@ -20,16 +18,12 @@ AllItems = (file : List ℕ) → itemsFrom (schedulePart file) 0 ≡ itemsOf (sc
 
 -- every state that the run passes through is a state of demand 3's statement
 abbrev pub EveryStateIsReached : Type 0
-EveryStateIsReached =
-    (ceiling : ℕ) (file : List ℕ) → fileNumber file ≡ 0 → EachSaid (λ said. Stands file (said .before) × Stands file (said .after)) (fileCourse ceiling file .lines)
+EveryStateIsReached = (file : List ℕ) → fileNumber file ≡ 0 → (state : State) → PassesThrough file state → IsReached (planIn file) state
 
--- between its lines the run changes its state by its step and its actions only, and each of these is one item more: so what it passes through
--- from one line to the next are such states too
-abbrev pub EachMoveIsAnItem : Type 0
-EachMoveIsAnItem =
-    (file : List ℕ) → fileNumber file ≡ 0 → (run : Run) (stands : Stands file run)
-    → (reachedNext (run .reached) .state ≡ reached (planIn file) (stands .done ++ (step ∷ [])))
-    × ((action : Action) (node lock : ℕ) → actionItem action node lock run .reached .state ≡ reached (planIn file) (stands .done ++ (act action node lock ∷ [])))
+-- the run before and after each line stands where a first part of the file's own items has brought it
+abbrev pub EveryLineStands : Type 0
+EveryLineStands =
+    (ceiling : ℕ) (file : List ℕ) → fileNumber file ≡ 0 → EachSaid (λ said. Stands file (said .before) × Stands file (said .after)) (fileCourse ceiling file .lines)
 
 -- no step of it is refused: the run's step is done in every such state
 abbrev pub NoStepRefused : Type 0

@@ -10,8 +10,12 @@ use Rattle.nightfile.specs.declared.Item.{Item as FileItem}
 use Rattle.nightfile.specs.declared.Item.the-variants.{Steps, Act}
 use Rattle.nightfile.specs.File.{planPart, schedulePart, planOf}
 use Rattle.nightfile.specs.Items.{itemOf}
+use Rattle.acts.specs.declared.Action.{Action}
+use Rattle.ring.specs.declared.State.{State}
+use Rattle.run.specs.declared.Reached.{Reached}
 use Rattle.run.specs.declared.Run.{Run}
 use Rattle.run.specs.declared.Line.{Line}
+use Rattle.run.specs.Standing.{beginning, reachedNext, actionItem}
 use Rattle.run.specs.Whole.{Said, itemsFrom}
 use Rattle.onelock.specs.OneLock.{Item, step, act, reached, Deed, granted, ended, deedIf, Moment}
 
@@ -49,6 +53,19 @@ pub record Stands (file : List ℕ) (run : Run) : Type 0 where
   pub split : itemsIn file ≡ done ++ left
   pub state : run .reached .state ≡ reached (planIn file) done
   pub steps : run .reached .steps ≡ stepsAmong done
+
+-- what a run of the file may pass through: the state that it begins with, and from each such state the one after the run's step and the
+-- one after its action, whatever the action
+pub data PassesThrough (file : List ℕ) : State → Type 0 where
+  at-first : PassesThrough file (beginning file .reached .state)
+  by-step : (before : Reached) → PassesThrough file (before .state) → PassesThrough file (reachedNext before .state)
+  by-action : (action : Action) (node lock : ℕ) (before : Run) → PassesThrough file (before .reached .state)
+      → PassesThrough file (actionItem action node lock before .reached .state)
+
+-- a state of demand 3's statement
+pub record IsReached (plan : Plan) (state : State) : Type 0 where
+  pub items : List Item
+  pub is : state ≡ reached plan items
 
 -- it holds of each line that is said
 unfoldable pub EachSaid : (Said → Type 0) → List Said → Type 0
