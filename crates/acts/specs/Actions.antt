@@ -10,7 +10,7 @@ use Rattle.acts.specs.declared.Action.the-variants.{Take, Release, Force
 use Rattle.acts.specs.declared.ActionAnswer.{ActionAnswer}
 use Rattle.acts.specs.declared.ActionAnswer.the-variants.{Accepted, NoSuchNode, NoSuchLock, NotIdle, Holds, LettingGo, DoesNotHold, BadState}
 use Rattle.usernode.specs.Node.{isIdle}
-use Rattle.usernode.specs.Turn.{letGo}
+use Rattle.usernode.specs.Node.{letGo}
 
 -- the number of an answer; 0: accepted
 unfoldable pub actionAnswerNumber : ActionAnswer → ℕ

@@ -6,8 +6,8 @@ use plan::NODES;
 use plan::POSITIONS;
 use plan::Plan;
 use ring::Happening;
+use turns::Event;
 use usernode::Activity;
-use usernode::Event;
 use usernode::Node;
 
 pub fn text(bytes: &[u8]) {
@@ -127,13 +127,13 @@ pub fn plan(plan: Plan) {
 
 // A node's event, if it has one: node, letter, lock.
 fn event(node: u8, event: Event) {
-    let letter = usernode::event_letter(event);
+    let letter = turns::event_letter(event);
     if letter != 0 {
         byte(b',');
         small(node);
         byte(b' ');
         byte(letter);
-        small(usernode::event_lock(event));
+        small(turns::event_lock(event));
     }
 }
 

@@ -10,9 +10,9 @@ use lib.ListN.{getD, replicate}
 use Rattle.cars.specs.Cars.{multiring}
 use Rattle.acts.specs.declared.Action.{Action}
 use Rattle.acts.specs.declared.Action.the-variants.{Take, Release, Force}
-use Rattle.usernode.specs.declared.Event.{Event}
-use Rattle.usernode.specs.declared.Event.the-variants.{Nothing, Granted, Failed, Lost, Back, Sent}
-use Rattle.usernode.specs.Turn.{eventLetter, eventLock}
+use Rattle.turns.specs.declared.Event.{Event}
+use Rattle.turns.specs.declared.Event.the-variants.{Nothing, Granted, Failed, Lost, Back, Sent}
+use Rattle.turns.specs.Turn.{eventLetter, eventLock}
 use Rattle.ring.specs.declared.State.{State}
 use Rattle.ring.specs.declared.Happening.{Happening}
 use Rattle.ring.specs.State.{Told}

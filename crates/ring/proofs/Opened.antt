@@ -11,7 +11,8 @@ use Rattle.usernode.specs.Astray.{waitsReqp, waitsDov, unready, astray}
 use Rattle.usernode.specs.Node.{had, isIdle, wantsTrain}
 use Rattle.usernode.specs.Rules.{onLetting, onGap, onIdle, onReqp, onFailp, onDov, rule}
 use Rattle.usernode.specs.Sound.{activityNames, lettingAllowed, nodeSound}
-use Rattle.usernode.specs.Turn.{flagAfter, becomes, grantCar, letGo, apply, eventOf, turn}
+use Rattle.usernode.specs.Node.{letGo}
+use Rattle.turns.specs.Turn.{flagAfter, becomes, grantCar, apply, eventOf, turn}
 use Rattle.zeronode.specs.Rules.{emptySlot, onToken, onHead, zeroRule, keeps}
 use Rattle.zeronode.specs.Sound.{placeNames, zeroSound}
 use Rattle.zeronode.specs.Turn.{shifted, headOff, sends, appended, arrives, zeroTurn, countLeft, overflows}

@@ -13,7 +13,7 @@ use Rattle.cars.specs.declared.Car.{Car}
 use Rattle.plan.specs.Plan.{valueAt, inRange}
 use Rattle.plan.proofs.Laws.{in-range, value-at-most}
 use Rattle.usernode.specs.declared.Node.{Node}
-use Rattle.usernode.specs.declared.Turn.{Turn}
+use Rattle.turns.specs.declared.Turn.{Turn}
 use Rattle.usernode.specs.Node.{wantsTrain}
 use Rattle.usernode.specs.Astray.{astray}
 use Rattle.junction.specs.declared.Junction.{Junction}

@@ -7,10 +7,10 @@ use lib.ListN.{getD, set, replicate}
 use Rattle.lists.specs.Loops.{some, iterate, inOrder}
 use Rattle.plan.specs.Plan.{nodePlaces, valueAt}
 use Rattle.usernode.specs.declared.Node.{Node}
-use Rattle.usernode.specs.declared.Turn.{Turn}
-use Rattle.usernode.specs.declared.Event.the-variants.{Nothing}
+use Rattle.turns.specs.declared.Turn.{Turn}
+use Rattle.turns.specs.declared.Event.the-variants.{Nothing}
 use Rattle.usernode.specs.Node.{wantsTrain}
-use Rattle.usernode.specs.Turn.{turn}
+use Rattle.turns.specs.Turn.{turn}
 use Rattle.usernode.specs.Astray.{astray}
 use Rattle.junction.specs.declared.Junction.{Junction}
 use Rattle.junction.specs.Turn.{junctionTurn}

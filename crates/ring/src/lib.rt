@@ -8,7 +8,7 @@ use junction::Junction;
 use plan::JUNCTIONS;
 use plan::NODES;
 use plan::Plan;
-use usernode::Event;
+use turns::Event;
 use usernode::Node;
 use zeronode::ZeroNode;
 

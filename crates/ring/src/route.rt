@@ -7,7 +7,7 @@ use crate::Happening;
 use crate::State;
 use crate::Walk;
 use plan::NODES;
-use usernode::Event;
+use turns::Event;
 
 // Whether one of two things holds.
 fn either(a: bool, b: bool) -> bool
@@ -43,7 +43,7 @@ impl State {
             let value = plan.values[place as usize];
             if value == 0 {
                 let node = self.nodes[passed as usize];
-                let turn = node.turn(rules, passed + 1, last);
+                let turn = turns::turn_of(node, rules, passed + 1, last);
                 astray = either(astray, node.astray(passed + 1, last));
                 let next = turn.node;
                 let event = turn.event;
@@ -61,7 +61,7 @@ impl State {
                 last = junction.subring;
                 while k < value {
                     let node = self.nodes[passed as usize];
-                    let turn = node.turn(rules, passed + 1, last);
+                    let turn = turns::turn_of(node, rules, passed + 1, last);
                     astray = either(astray, node.astray(passed + 1, last));
                     wants = either(wants, node.wants_train());
                     let next = turn.node;

@@ -11,7 +11,7 @@ use crate::State;
 use crate::StepAnswer;
 use crate::Stepped;
 use plan::NODES;
-use usernode::Event;
+use turns::Event;
 
 impl State {
     // The state as it was, with no events.

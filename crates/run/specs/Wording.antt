@@ -6,8 +6,8 @@ use lib.Dec.{eqb}
 use lib.ListN.{getD}
 use Rattle.acts.specs.declared.Action.{Action}
 use Rattle.acts.specs.declared.Action.the-variants.{Take, Release, Force}
-use Rattle.usernode.specs.declared.Event.{Event}
-use Rattle.usernode.specs.Turn.{eventLetter, eventLock}
+use Rattle.turns.specs.declared.Event.{Event}
+use Rattle.turns.specs.Turn.{eventLetter, eventLock}
 use Rattle.ring.specs.Actions.{actingSound}
 use Rattle.ring.specs.Walk.{quiet}
 use Rattle.tally.specs.Tally.{sumOf}

@@ -18,7 +18,7 @@ use nightfile::Cursor;
 use nightfile::Item;
 use nightfile::ItemAnswer;
 use tally::LOCKS;
-use usernode::Event;
+use turns::Event;
 
 // The letter of an accepted action.
 fn action_letter(action: Action) -> u8
@@ -102,8 +102,8 @@ impl Run {
         ensures { λ r. ⌜ r ≡ saying (eventLine self) (past self) ⌝ }
     {
         let event = self.event_here();
-        let letter = usernode::event_letter(event);
-        let lock = usernode::event_lock(event);
+        let letter = turns::event_letter(event);
+        let lock = turns::event_lock(event);
         let line = self.line_of(letter, (self.next + 1) as u64, lock as u64);
         let run = self.past();
         Saying {

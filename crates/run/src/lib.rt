@@ -7,7 +7,7 @@ use ring::Happening;
 use ring::State;
 use tally::LOCKS;
 use tally::Tally;
-use usernode::Event;
+use turns::Event;
 
 mod beginning;
 mod current;

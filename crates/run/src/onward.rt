@@ -13,13 +13,13 @@ use crate::Run;
 use nightfile::Cursor;
 use nightfile::Item;
 use nightfile::ItemAnswer;
-use usernode::Event;
+use turns::Event;
 
 // Whether something happened.
 pub(crate) fn is_event(event: Event) -> bool
     ensures { λ r. ⌜ r ≡ isEvent event ⌝ }
 {
-    usernode::event_letter(event) != 0
+    turns::event_letter(event) != 0
 }
 
 impl Run {

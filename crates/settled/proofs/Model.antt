@@ -5,7 +5,7 @@ use mathlib.Core.Bool.{Bool}
 use Rattle.cars.specs.declared.Car.{Car}
 use Rattle.plan.specs.declared.Plan.{Plan}
 use Rattle.usernode.specs.declared.Activity.{Activity}
-use Rattle.usernode.specs.declared.Event.{Event}
+use Rattle.turns.specs.declared.Event.{Event}
 use Rattle.usernode.specs.declared.Node.{Node}
 use Rattle.acts.specs.declared.Action.{Action}
 use Rattle.acts.specs.declared.ActionAnswer.{ActionAnswer}
@@ -22,7 +22,8 @@ use Rattle.usernode.specs.Astray.{astray}
 use Rattle.usernode.specs.Node.{isIdle, had, wantsTrain}
 use Rattle.usernode.specs.Rules.{rule}
 use Rattle.usernode.specs.Sound.{nodeSound}
-use Rattle.usernode.specs.Turn.{letGo, eventLetter, eventLock, turn}
+use Rattle.usernode.specs.Node.{letGo}
+use Rattle.turns.specs.Turn.{eventLetter, eventLock, turn}
 use Rattle.zeronode.specs.Rules.{keeps, zeroRule}
 use Rattle.zeronode.specs.Sound.{zeroSound}
 use Rattle.zeronode.specs.Turn.{zeroTurn, overflows}

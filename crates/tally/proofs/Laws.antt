@@ -11,8 +11,8 @@ use Rattle.lists.proofs.Laws.{some-more, inOrder-more}
 use Rattle.words.specs.Words.{has}
 use Rattle.words.proofs.Sets.{has-or}
 use Rattle.usernode.specs.declared.Node.{Node}
-use Rattle.usernode.specs.declared.Event.{Event}
-use Rattle.usernode.specs.declared.Event.the-variants.{Nothing, Granted, Failed, Lost, Back, Sent}
+use Rattle.turns.specs.declared.Event.{Event}
+use Rattle.turns.specs.declared.Event.the-variants.{Nothing, Granted, Failed, Lost, Back, Sent}
 use Rattle.ring.specs.State.{restNode}
 use Rattle.tally.specs.Tally.{counted, busy, busyLock, busyCounts, isCounted, eventTally, addUp}
 use Rattle.tally.specs.declared.Tally.{Tally}

@@ -8,8 +8,8 @@ use Rattle.lists.specs.Loops.{some, inOrder}
 use Rattle.words.specs.Words.{has}
 use Rattle.plan.specs.Plan.{nodePlaces}
 use Rattle.usernode.specs.declared.Node.{Node}
-use Rattle.usernode.specs.declared.Event.{Event}
-use Rattle.usernode.specs.declared.Event.the-variants.{Nothing, Granted, Failed, Lost, Back, Sent}
+use Rattle.turns.specs.declared.Event.{Event}
+use Rattle.turns.specs.declared.Event.the-variants.{Nothing, Granted, Failed, Lost, Back, Sent}
 use Rattle.ring.specs.declared.Happening.{Happening}
 use Rattle.ring.specs.State.{restNode}
 use Rattle.ring.specs.Walk.{quiet}

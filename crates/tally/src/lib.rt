@@ -5,7 +5,7 @@ ghost use Rattle.words.specs.Words.{has};
 ghost use Rattle.tally.specs.Tally.{emptyTally, more, counted, busy, busyCounts, isCounted, eventTally, eventsTally, stepTally, sumOf};
 use plan::NODES;
 use ring::Happening;
-use usernode::Event;
+use turns::Event;
 use usernode::Node;
 
 // The places kept for locks.

@@ -1,8 +1,9 @@
--- 01, "User node": what the rules ask of a node.
+-- 01, "User node": what the rules ask of a node, and how its letting-go word takes a lock.
 use Prim.Native.Nat.{ℕ}
-use mathlib.Core.Bool.{Bool, true, false, _&&_, _||_, not}
+use mathlib.Core.Bool.{Bool, true, false, cond, _||_, not}
 use lib.Dec.{eqb}
-use Rattle.words.specs.Words.{has}
+use Rattle.words.specs.Words.{has, withLock}
+use Rattle.cars.specs.Cars.{multiring}
 use Rattle.usernode.specs.declared.Node.{Node}
 use Rattle.usernode.specs.declared.Activity.{Activity}
 use Rattle.usernode.specs.declared.Activity.the-variants.{Idle, ToSendReqp, WaitingReqp, ToSendDov, WaitingDov}
@@ -22,3 +23,7 @@ isIdle (WaitingDov lock) = false
 -- "wants a train (activity not idle, or letting-go word not empty ..)"
 unfoldable pub wantsTrain : Node → Bool
 wantsTrain node = not (isIdle (node .activity)) || not (eqb (node .letting) 0)
+
+-- "and, under multiring rules, set the letting-go bit"
+unfoldable pub letGo : ℕ → ℕ → ℕ → ℕ
+letGo rules letting lock = cond (multiring rules) (withLock letting lock) letting

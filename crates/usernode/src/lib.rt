@@ -1,12 +1,10 @@
-// One user node: what it is, the nine rules by which it answers a car that arrives, and what 13 and 15 say of one node.
+// One user node: what it is, which of the nine rules fits the car that arrives, and what 13 and 15 say of one node.
 ghost use mathlib.Core.Path.{_≡_};
-ghost use Rattle.usernode.specs.Node.{had, isIdle, wantsTrain};
-ghost use Rattle.usernode.specs.Turn.{letGo, eventLetter, eventLock};
+ghost use Rattle.usernode.specs.Node.{had, isIdle, wantsTrain, letGo};
 use cars::Car;
 use cars::Tag;
 
 mod astray;
-mod deeds;
 mod rules;
 mod sound;
 
@@ -39,50 +37,6 @@ pub enum Rule {
     FailsReqp(Tag),
     OwnDov(u8),
     LosesLock(Tag),
-}
-
-// What a step did at a node, with the lock: granted, failp returned, lost to a dov, own dov back, didv sent.
-pub enum Event {
-    Nothing,
-    Granted(u8),
-    Failed(u8),
-    Lost(u8),
-    Back(u8),
-    Sent(u8),
-}
-
-// A node after its turn in a step, and the event that its rule gave.
-pub struct Turn {
-    pub node: Node,
-    pub event: Event,
-}
-
-// The event's letter in a line; 0 for no event.
-pub fn event_letter(event: Event) -> u8
-    ensures { λ r. ⌜ r ≡ eventLetter event ⌝ }
-{
-    match event {
-        Event::Nothing => 0,
-        Event::Granted(lock) => b'G',
-        Event::Failed(lock) => b'N',
-        Event::Lost(lock) => b'L',
-        Event::Back(lock) => b'B',
-        Event::Sent(lock) => b'D',
-    }
-}
-
-// The event's lock; 0 for no event.
-pub fn event_lock(event: Event) -> u8
-    ensures { λ r. ⌜ r ≡ eventLock event ⌝ }
-{
-    match event {
-        Event::Nothing => 0,
-        Event::Granted(lock) => lock,
-        Event::Failed(lock) => lock,
-        Event::Lost(lock) => lock,
-        Event::Back(lock) => lock,
-        Event::Sent(lock) => lock,
-    }
 }
 
 // Whether there is nothing to do.

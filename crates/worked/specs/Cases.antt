@@ -4,7 +4,7 @@ use mathlib.Core.List.{List, [], _∷_, _++_}
 use lib.ListN.{replicate}
 use Rattle.plan.specs.declared.Plan.{Plan}
 use Rattle.acts.specs.declared.Action.the-variants.{Take, Release, Force}
-use Rattle.usernode.specs.declared.Event.the-variants.{Granted, Failed, Lost, Back, Sent}
+use Rattle.turns.specs.declared.Event.the-variants.{Granted, Failed, Lost, Back, Sent}
 use Rattle.worked.specs.Watch.{Move, steps, act, Seen, Sight, at, accepted, refusal, event, token, word, begins, ends}
 
 -- a run and what is to be seen of it

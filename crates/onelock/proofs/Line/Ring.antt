@@ -6,7 +6,7 @@ use lib.Dec.{eqb}
 use Rattle.cars.specs.declared.Car.{Car}
 use Rattle.usernode.specs.declared.Node.{Node}
 use Rattle.usernode.specs.Node.{wantsTrain}
-use Rattle.usernode.specs.Turn.{turn}
+use Rattle.turns.specs.Turn.{turn}
 use Rattle.junction.specs.declared.Junction.{Junction}
 use Rattle.junction.specs.Turn.{junctionTurn}
 use Rattle.onelock.proofs.Train.Nodes.{put}

@@ -16,7 +16,8 @@ use Rattle.usernode.specs.declared.Node.{Node}
 use Rattle.usernode.specs.declared.Activity.{Activity}
 use Rattle.usernode.specs.declared.Activity.the-variants.{Idle as Resting, WaitingReqp}
 use Rattle.usernode.specs.Node.{had}
-use Rattle.usernode.specs.Turn.{becomes, grantCar, letGo}
+use Rattle.usernode.specs.Node.{letGo}
+use Rattle.turns.specs.Turn.{becomes, grantCar}
 use Rattle.onelock.proofs.Tests.{by-value}
 use Rattle.onelock.proofs.Train.Cells.{Cell, cell, All, Gates, Bare, Gateless, asks, request, bit, Names, Apart}
 use Rattle.onelock.proofs.Train.Invariant.{Ok, Inv}

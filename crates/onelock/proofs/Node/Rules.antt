@@ -14,13 +14,14 @@ use Rattle.cars.specs.declared.Car.the-variants.{Idle, Token, Null, Reqp, Failp
 use Rattle.usernode.specs.declared.Node.{Node}
 use Rattle.usernode.specs.declared.Activity.{Activity}
 use Rattle.usernode.specs.declared.Activity.the-variants.{Idle as Resting, ToSendReqp, WaitingReqp, ToSendDov, WaitingDov}
-use Rattle.usernode.specs.declared.Event.{Event}
-use Rattle.usernode.specs.declared.Event.the-variants.{Nothing, Granted, Failed, Lost, Back, Sent}
+use Rattle.turns.specs.declared.Event.{Event}
+use Rattle.turns.specs.declared.Event.the-variants.{Nothing, Granted, Failed, Lost, Back, Sent}
 use Rattle.usernode.specs.declared.Rule.{Rule}
 use Rattle.usernode.specs.declared.Rule.the-variants.{Passes, SendsDidv, OwnReqp, OwnFailp, FailsReqp, OwnDov, LosesLock}
 use Rattle.usernode.specs.Node.{had}
 use Rattle.usernode.specs.Rules.{onLetting, onGap, onIdle, onReqp, onFailp, onDov, rule}
-use Rattle.usernode.specs.Turn.{becomes, grantCar, letGo, apply, turn, eventOf}
+use Rattle.usernode.specs.Node.{letGo}
+use Rattle.turns.specs.Turn.{becomes, grantCar, apply, turn, eventOf}
 use Rattle.onelock.proofs.Train.Cells.{asks, request, Names}
 
 -- the words of a node are 64-bit words and its activity names a lock below 64

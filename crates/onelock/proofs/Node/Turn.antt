@@ -13,8 +13,9 @@ use Rattle.usernode.specs.declared.Node.{Node}
 use Rattle.usernode.specs.declared.Activity.{Activity}
 use Rattle.usernode.specs.declared.Activity.the-variants.{WaitingReqp, WaitingDov}
 use Rattle.usernode.specs.Node.{had}
-use Rattle.usernode.specs.declared.Event.{Event}
-use Rattle.usernode.specs.Turn.{flagAfter, becomes, grantCar, letGo}
+use Rattle.turns.specs.declared.Event.{Event}
+use Rattle.usernode.specs.Node.{letGo}
+use Rattle.turns.specs.Turn.{flagAfter, becomes, grantCar}
 use Rattle.onelock.proofs.Train.Cells.{Cell, cell, Bare, Gateless, asks, request, Names}
 use Rattle.onelock.proofs.Train.CellLaws.{gates-join}
 use Rattle.onelock.proofs.Train.Invariant.{Inv}

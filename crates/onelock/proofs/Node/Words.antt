@@ -13,7 +13,8 @@ use Rattle.usernode.specs.declared.Node.{Node}
 use Rattle.usernode.specs.declared.Activity.{Activity}
 use Rattle.usernode.specs.declared.Activity.the-variants.{Idle as Resting}
 use Rattle.usernode.specs.Node.{had}
-use Rattle.usernode.specs.Turn.{becomes, letGo}
+use Rattle.usernode.specs.Node.{letGo}
+use Rattle.turns.specs.Turn.{becomes}
 use Rattle.onelock.proofs.Tests.{or-by-first, or-by-second, by-value, or-left, or-right, or-first}
 use Rattle.onelock.proofs.Train.Cells.{Names, Apart}
 

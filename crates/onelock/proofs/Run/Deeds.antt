@@ -13,9 +13,10 @@ use Rattle.cars.specs.Cars.{multiring}
 use Rattle.usernode.specs.declared.Node.{Node}
 use Rattle.usernode.specs.declared.Activity.{Activity}
 use Rattle.usernode.specs.declared.Activity.the-variants.{Idle as Resting}
-use Rattle.usernode.specs.declared.Event.{Event}
+use Rattle.turns.specs.declared.Event.{Event}
 use Rattle.usernode.specs.Node.{had}
-use Rattle.usernode.specs.Turn.{becomes, letGo, turn}
+use Rattle.usernode.specs.Node.{letGo}
+use Rattle.turns.specs.Turn.{becomes, turn}
 use Rattle.usernode.specs.Sound.{lettingAllowed, nodeSound}
 use Rattle.acts.specs.declared.Action.{Action}
 use Rattle.acts.specs.declared.Action.the-variants.{Take, Release, Force}

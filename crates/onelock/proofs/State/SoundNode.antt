@@ -20,7 +20,8 @@ use Rattle.usernode.specs.declared.Rule.{Rule}
 use Rattle.usernode.specs.declared.Rule.the-variants.{Passes, SendsReqp, SendsDov, SendsDidv, OwnReqp, OwnFailp, FailsReqp, OwnDov, LosesLock}
 use Rattle.usernode.specs.Node.{had}
 use Rattle.usernode.specs.Rules.{onLetting, onGap, onIdle, onReqp, onFailp, onDov, rule}
-use Rattle.usernode.specs.Turn.{becomes, grantCar, letGo, apply, turn}
+use Rattle.usernode.specs.Node.{letGo}
+use Rattle.turns.specs.Turn.{becomes, grantCar, apply, turn}
 use Rattle.acts.specs.declared.Action.{Action}
 use Rattle.acts.specs.declared.Action.the-variants.{Take, Release, Force}
 use Rattle.acts.specs.Actions.{busyWith, released, acted}

@@ -11,9 +11,9 @@ use lib.Seq.{getD-set-same, getD-set-other}
 use Rattle.lists.specs.Loops.{some, iterate}
 use Rattle.cars.specs.declared.Car.{Car}
 use Rattle.usernode.specs.declared.Node.{Node}
-use Rattle.usernode.specs.declared.Turn.{Turn}
+use Rattle.turns.specs.declared.Turn.{Turn}
 use Rattle.usernode.specs.Node.{wantsTrain}
-use Rattle.usernode.specs.Turn.{turn}
+use Rattle.turns.specs.Turn.{turn}
 use Rattle.usernode.specs.Astray.{astray}
 use Rattle.junction.specs.declared.Junction.{Junction}
 use Rattle.junction.specs.Turn.{junctionTurn}

@@ -15,7 +15,7 @@ use Rattle.plan.specs.declared.Plan.{Plan}
 use Rattle.plan.specs.Plan.{valueAt, sizeOf, junctionsOf, nodesBefore, nodeCount, inRange}
 use Rattle.plan.proofs.Laws.{nodes-none, nodes-more, counted, nodes-count-most, in-range}
 use Rattle.usernode.specs.declared.Node.{Node}
-use Rattle.usernode.specs.Turn.{turn}
+use Rattle.turns.specs.Turn.{turn}
 use Rattle.junction.specs.declared.Junction.{Junction}
 use Rattle.ring.specs.declared.State.{State}
 use Rattle.ring.specs.declared.Walk.{Walk}

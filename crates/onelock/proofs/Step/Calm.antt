@@ -10,8 +10,8 @@ use Rattle.usernode.specs.declared.Node.{Node}
 use Rattle.usernode.specs.declared.Activity.{Activity}
 use Rattle.usernode.specs.declared.Activity.the-variants.{Idle as Resting, ToSendReqp, WaitingReqp, ToSendDov, WaitingDov}
 use Rattle.usernode.specs.Node.{isIdle, wantsTrain}
-use Rattle.usernode.specs.declared.Event.{Event}
-use Rattle.usernode.specs.Turn.{becomes}
+use Rattle.turns.specs.declared.Event.{Event}
+use Rattle.turns.specs.Turn.{becomes}
 use Rattle.onelock.proofs.Tests.{or-left, or-right}
 use Rattle.onelock.proofs.Train.Cells.{Cell}
 use Rattle.onelock.proofs.Line.Ring.{Line, end, user, junction, out, wanting, stepLine}

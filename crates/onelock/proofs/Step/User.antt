@@ -10,8 +10,8 @@ use Rattle.cars.specs.declared.Car.{Car}
 use Rattle.usernode.specs.declared.Node.{Node}
 use Rattle.usernode.specs.declared.Activity.{Activity}
 use Rattle.usernode.specs.declared.Activity.the-variants.{WaitingReqp, WaitingDov}
-use Rattle.usernode.specs.declared.Event.{Event}
-use Rattle.usernode.specs.Turn.{becomes, turn}
+use Rattle.turns.specs.declared.Event.{Event}
+use Rattle.turns.specs.Turn.{becomes, turn}
 use Rattle.onelock.proofs.Train.Cells.{Cell, cell, Gateless, asks, request}
 use Rattle.onelock.proofs.Train.CellLaws.{all-right, all-join, all-map, gates-join}
 use Rattle.onelock.proofs.Train.Invariant.{Ok, Inv}

@@ -1,5 +1,5 @@
 -- `usernode::deeds::let_go` meets its contract. On each way to a return, the tests and calls on the way choose the case of the definition.
-use Rattle.usernode.specs.Turn.{letGo}
+use Rattle.usernode.specs.Node.{letGo}
 use borrow.Author.Needs.{needs}
 use Rattle.usernode.proofs.let_go.Statement.{statement}
 use Rattle.usernode.proofs.let_go.Tie as tie

@@ -46,11 +46,11 @@ mul-node c = search needs
 element-copy-out-node : tie.Need-element-copy-out-node Inv-loop2 μ-loop2 Inv-loop μ-loop
 element-copy-out-node c = search needs
 
-add-turn : tie.Need-add-turn Inv-loop2 μ-loop2 Inv-loop μ-loop
-add-turn c = search needs
+add-turn-of : tie.Need-add-turn-of Inv-loop2 μ-loop2 Inv-loop μ-loop
+add-turn-of c = search needs
 
-turn-requires : tie.Need-turn-requires Inv-loop2 μ-loop2 Inv-loop μ-loop
-turn-requires c κs = search needs
+turn-of-requires : tie.Need-turn-of-requires Inv-loop2 μ-loop2 Inv-loop μ-loop
+turn-of-requires c κs = search needs
 
 add-astray : tie.Need-add-astray Inv-loop2 μ-loop2 Inv-loop μ-loop
 add-astray c = search needs
@@ -92,7 +92,7 @@ loop-again : tie.Need-loop-again Inv-loop2 μ-loop2 Inv-loop μ-loop
 unfolding valueAt turnHere nodeHere restNode
 loop-again c =
     around-node _ _ _ (c .before .before .before .before .before .before .before .before .loop .inv) (c .before .before .before .before .before .before .before .loop-test .taken) _ (c .before .before .before .before .before .if1 .taken)
-    (node-turned _ _ _ _ _ (c .before .before .before .turn .ensures) (c .before .before .astray .ensures) (c .before .either .ensures))
+    (node-turned _ _ _ _ _ (c .before .before .before .turn-of .ensures) (c .before .before .astray .ensures) (c .before .either .ensures))
 
 cast-junction : tie.Need-cast-junction Inv-loop2 μ-loop2 Inv-loop μ-loop
 cast-junction c = search needs
@@ -116,11 +116,11 @@ mul-node-2 c = search needs
 element-copy-out-node-2 : tie.Need-element-copy-out-node-2 Inv-loop2 μ-loop2 Inv-loop μ-loop
 element-copy-out-node-2 c = search needs
 
-add-turn-2 : tie.Need-add-turn-2 Inv-loop2 μ-loop2 Inv-loop μ-loop
-add-turn-2 c = search needs
+add-turn-of-2 : tie.Need-add-turn-of-2 Inv-loop2 μ-loop2 Inv-loop μ-loop
+add-turn-of-2 c = search needs
 
-turn-requires-2 : tie.Need-turn-requires-2 Inv-loop2 μ-loop2 Inv-loop μ-loop
-turn-requires-2 c κs = search needs
+turn-of-requires-2 : tie.Need-turn-of-requires-2 Inv-loop2 μ-loop2 Inv-loop μ-loop
+turn-of-requires-2 c κs = search needs
 
 add-astray-2 : tie.Need-add-astray-2 Inv-loop2 μ-loop2 Inv-loop μ-loop
 add-astray-2 c = search needs
@@ -168,10 +168,10 @@ loop2-again : tie.Need-loop2-again Inv-loop2 μ-loop2 Inv-loop μ-loop
 unfolding turnHere nodeHere restNode
 loop2-again c =
     inside-node _ _ _ _ _ _ _ _ _ (c .before .before .before .before .before .before .before .before .loop2 .inv) (c .before .before .before .before .before .before .before .loop2-test .taken) (c .before .either3 .ensures ∙ ap (λ (b : Bool). c .before .before .before .before .before .before .before .before .loop2 .wants || b) (c .before .before .wants-train .ensures))
-    (node-turned _ _ _ _ _ (c .before .before .before .before .before .turn2 .ensures) (c .before .before .before .before .astray2 .ensures) (c .before .before .before .either2 .ensures))
+    (node-turned _ _ _ _ _ (c .before .before .before .before .before .turn-of2 .ensures) (c .before .before .before .before .astray2 .ensures) (c .before .before .before .either2 .ensures))
 
-turn-requires-3 : tie.Need-turn-requires-3 Inv-loop2 μ-loop2 Inv-loop μ-loop
-turn-requires-3 c κs = search needs
+turn-requires : tie.Need-turn-requires Inv-loop2 μ-loop2 Inv-loop μ-loop
+turn-requires c κs = search needs
 
 cast-junctions : tie.Need-cast-junctions Inv-loop2 μ-loop2 Inv-loop μ-loop
 cast-junctions c = search needs
@@ -195,7 +195,7 @@ loop-again-2 : tie.Need-loop-again-2 Inv-loop2 μ-loop2 Inv-loop μ-loop
 unfolding valueAt intoSubring junctionHere restJunction
 loop-again-2 c =
     around-junction _ _ _ _ _ _ _ (c .before .before .before .before .before .before .before .loop .inv) (c .before .before .before .before .before .before .loop-test .taken) (c .before .before .before .before .if1 .left) (c .before .before .loop2 .inv) (c .before .loop2-test .left)
-    (junction-turned _ _ _ _ _ _ _ _ (c .before .before .loop2 .inv) (c .before .loop2-test .left) (c .turn3 .ensures))
+    (junction-turned _ _ _ _ _ _ _ _ (c .before .before .loop2 .inv) (c .before .loop2-test .left) (c .turn .ensures))
 
 returns : tie.Need-returns Inv-loop2 μ-loop2 Inv-loop μ-loop
 returns c = walked _ _ _ (c .before .loop .inv) (c .loop-test .left)
@@ -214,8 +214,8 @@ walk-spec =
     cast-node
     mul-node
     element-copy-out-node
-    add-turn
-    turn-requires
+    add-turn-of
+    turn-of-requires
     add-astray
     astray-requires
     either-requires
@@ -236,8 +236,8 @@ walk-spec =
     cast-node-2
     mul-node-2
     element-copy-out-node-2
-    add-turn-2
-    turn-requires-2
+    add-turn-of-2
+    turn-of-requires-2
     add-astray-2
     astray-requires-2
     either-requires-2
@@ -253,7 +253,7 @@ walk-spec =
     add-k
     loop2-less
     loop2-again
-    turn-requires-3
+    turn-requires
     cast-junctions
     mul-junctions
     array-set-from-junctions

@@ -1,8 +1,8 @@
--- `usernode::deeds::event_of` meets its contract. On each way to a return, the tests and calls on the way choose the case of the definition.
-use Rattle.usernode.specs.Turn.{eventOf}
+-- `turns::deeds::event_of` meets its contract. On each way to a return, the tests and calls on the way choose the case of the definition.
+use Rattle.turns.specs.Turn.{eventOf}
 use borrow.Author.Needs.{needs}
-use Rattle.usernode.proofs.deeds.event_of.Statement.{statement}
-use Rattle.usernode.proofs.deeds.event_of.Tie as tie
+use Rattle.turns.proofs.deeds.event_of.Statement.{statement}
+use Rattle.turns.proofs.deeds.event_of.Tie as tie
 
 enum-told : tie.Need-enum-told
 enum-told c = search needs

@@ -1,8 +1,8 @@
--- `usernode::Node::becomes` meets its contract. On each way to a return, the tests and calls on the way choose the case of the definition.
-use Rattle.usernode.specs.Turn.{becomes}
+-- `turns::deeds::becomes` meets its contract. On each way to a return, the tests and calls on the way choose the case of the definition.
+use Rattle.turns.specs.Turn.{becomes}
 use borrow.Author.Needs.{needs}
-use Rattle.usernode.proofs.Node.becomes.Statement.{statement}
-use Rattle.usernode.proofs.Node.becomes.Tie as tie
+use Rattle.turns.proofs.deeds.becomes.Statement.{statement}
+use Rattle.turns.proofs.deeds.becomes.Tie as tie
 
 flag-after-requires : tie.Need-flag-after-requires
 flag-after-requires c κs = search needs

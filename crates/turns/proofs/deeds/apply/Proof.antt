@@ -1,8 +1,8 @@
--- `usernode::Node::apply` meets its contract. On each way to a return, the tests and calls on the way choose the case of the definition.
-use Rattle.usernode.specs.Turn.{apply}
+-- `turns::deeds::apply` meets its contract. On each way to a return, the tests and calls on the way choose the case of the definition.
+use Rattle.turns.specs.Turn.{apply}
 use borrow.Author.Needs.{needs}
-use Rattle.usernode.proofs.Node.apply.Statement.{statement}
-use Rattle.usernode.proofs.Node.apply.Tie as tie
+use Rattle.turns.proofs.deeds.apply.Statement.{statement}
+use Rattle.turns.proofs.deeds.apply.Tie as tie
 
 enum-told : tie.Need-enum-told
 enum-told c = search needs

@@ -5,15 +5,16 @@ use Rattle.words.specs.Words.{withLock, withoutLock}
 use Rattle.cars.specs.Cars.{multiring}
 use Rattle.cars.specs.declared.Car.{Car}
 use Rattle.cars.specs.declared.Car.the-variants.{Idle, Token, Null, Reqp, Failp, Dov, Gotp, Didv}
 use Rattle.usernode.specs.declared.Node.{Node}
 use Rattle.usernode.specs.declared.Activity.{Activity}
 use Rattle.usernode.specs.declared.Activity.the-variants.{Idle as Resting, WaitingReqp, WaitingDov}
 use Rattle.usernode.specs.declared.Rule.{Rule}
 use Rattle.usernode.specs.declared.Rule.the-variants.{Passes, SendsReqp, SendsDov, SendsDidv, OwnReqp, OwnFailp, FailsReqp, OwnDov, LosesLock}
-use Rattle.usernode.specs.declared.Event.{Event}
-use Rattle.usernode.specs.declared.Event.the-variants.{Nothing, Granted, Failed, Lost, Back, Sent}
-use Rattle.usernode.specs.declared.Turn.{Turn}
+use Rattle.turns.specs.declared.Event.{Event}
+use Rattle.turns.specs.declared.Event.the-variants.{Nothing, Granted, Failed, Lost, Back, Sent}
+use Rattle.turns.specs.declared.Turn.{Turn}
+use Rattle.usernode.specs.Node.{letGo}
 use Rattle.usernode.specs.Rules.{rule}
 
 -- "The in-train flag is then set by sending token, cleared by sending idle, else kept."
 unfoldable pub flagAfter : Car → Bool → Bool
@@ -34,10 +35,6 @@ becomes node car activity held letting =
 -- 4. "send null (ring) or gotp (multiring)"
 unfoldable pub grantCar : ℕ → ℕ → ℕ → Car
 grantCar rules me lock = cond (multiring rules) (Gotp (record { lock = lock; source = me })) Null
-
--- "and, under multiring rules, set the letting-go bit"
-unfoldable pub letGo : ℕ → ℕ → ℕ → ℕ
-letGo rules letting lock = cond (multiring rules) (withLock letting lock) letting
 
 -- rules 1 to 9, one a line: the car sent, the activity, the held word, the letting-go word
 unfoldable pub apply : ℕ → ℕ → Car → Node → Rule → Node

@@ -1,8 +1,8 @@
--- `usernode::deeds::grant_car` meets its contract. On each way to a return, the tests and calls on the way choose the case of the definition.
-use Rattle.usernode.specs.Turn.{grantCar}
+-- `turns::deeds::grant_car` meets its contract. On each way to a return, the tests and calls on the way choose the case of the definition.
+use Rattle.turns.specs.Turn.{grantCar}
 use borrow.Author.Needs.{needs}
-use Rattle.usernode.proofs.deeds.grant_car.Statement.{statement}
-use Rattle.usernode.proofs.deeds.grant_car.Tie as tie
+use Rattle.turns.proofs.deeds.grant_car.Statement.{statement}
+use Rattle.turns.proofs.deeds.grant_car.Tie as tie
 
 multiring-requires : tie.Need-multiring-requires
 multiring-requires c κs = search needs
