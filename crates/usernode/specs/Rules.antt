@@ -1,4 +1,4 @@
--- 01, "User node, first rule that fits": which of the nine rules fits the car that arrives. What a rule does is in Turn.
+-- 01, "User node, first rule that fits": which of the nine rules fits the car that arrives. What a rule does is in crate turns.
 use Prim.Native.Nat.{ℕ}
 use mathlib.Core.Bool.{Bool, cond}
 use lib.Dec.{eqb}
