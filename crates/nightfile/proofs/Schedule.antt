@@ -1,18 +1,16 @@
--- Reading the schedule of an accepted file: from each place 3 * k an item is found, and at the end there are no more.
-use Prim.Native.Nat.{ℕ, _+_, _-_, _*_, _/_, _%_, _≤_, _<_}
+-- What the schedule of an accepted file gives: whole items only, and no first byte of an item above 3.
+use Prim.Native.Nat.{ℕ, _*_, _/_, _%_, _≤_, _<_}
 use mathlib.Core.Path.{_≡_, refl}
 use mathlib.Core.Bool.{Bool, true, false, cond}
 use mathlib.Core.List.{List, []}
 use native.Mathlib.Omega.{arith}
 use lib.Dec.{eqb}
 use lib.ListN.{length}
-use borrow.Author.Tests.{eqb-true, leb-true, not-false, le-leb, lt-leb, le-ltb}
+use borrow.Author.Tests.{eqb-true, leb-true, not-false}
 use Rattle.lists.specs.Loops.{every}
 use Rattle.lists.specs.Refusal.{refusedIf}
 use Rattle.lists.proofs.Laws.{every-at}
-use Rattle.nightfile.specs.declared.ItemAnswer.the-variants.{NoMore, Found}
 use Rattle.nightfile.specs.File.{byteAt, bytesLeftOver, itemKindRight, itemKindsRight, scheduleNumber, scheduleBody, fileNumber, ifAccepted, schedulePart}
-use Rattle.nightfile.specs.Items.{itemOf, reading, readAt}
 use Rattle.nightfile.proofs.Laws.{not-refused, accepted}
 
 -- what an accepted schedule gives: whole items only, and each item's first byte is at most 3
@@ -27,24 +25,10 @@ whole schedule e =
     let rest : length schedule % 3 ≡ 0 = eqb-true _ _ (not-false _ (left .0)) in
     record { long = omega arith; kinds = not-false _ (not-refused _ 6 0 (omega arith) (left .1) .0) }
 
-kind-most : (schedule : List ℕ) (k : ℕ) → itemKindsRight schedule ≡ true → k < length schedule / 3 → byteAt schedule (3 * k) ≤ 3
+-- the first byte of the item at an index
+pub kind-most : (schedule : List ℕ) (k : ℕ) → itemKindsRight schedule ≡ true → k < length schedule / 3 → byteAt schedule (3 * k) ≤ 3
 unfolding itemKindsRight itemKindRight
 kind-most schedule k e below = leb-true _ _ (every-at (itemKindRight schedule) (length schedule / 3) k e below)
-
--- each item is found, and the place moves past it
-pub reads-on : (schedule : List ℕ) (k : ℕ) → scheduleNumber schedule ≡ 0 → k < length schedule / 3 →
-    readAt schedule (3 * k) ≡ reading (Found (itemOf schedule (3 * k))) (3 * k + 3)
-unfolding readAt
-reads-on schedule k e below =
-    let w = whole schedule e in
-    let inside : 3 * k < length schedule = omega arith in
-    let room : 3 ≤ length schedule - 3 * k = omega arith in
-    simp (lt-leb _ _ inside, le-ltb _ _ room, le-ltb _ _ (kind-most schedule k (w .kinds) below))
-
--- at the end, and past it, there are no more, and the place does not move
-pub reads-past : (schedule : List ℕ) (at : ℕ) → length schedule ≤ at → readAt schedule at ≡ reading NoMore at
-unfolding readAt
-reads-past schedule at past = simp (le-leb _ _ past)
 
 -- the schedule's part of any file is such a schedule: that of a refused file is empty
 empty-right : scheduleNumber [] ≡ 0

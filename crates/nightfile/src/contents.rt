@@ -1,7 +1,7 @@
 // The bytes of a file and its contents (2): the number of entries, and each entry's kind, offset and length.
 ghost use mathlib.Core.Path.{_≡_};
 ghost use Prim.Native.Nat.{_+_, _≤_, _<_, _^_};
-ghost use Rattle.nightfile.specs.File.{byteAt, twoAt, entryAt, entryLength, scheduleStart, contentsRight};
+ghost use Rattle.nightfile.specs.File.{byteAt, entryAt, entryLength, scheduleStart, contentsRight};
 
 // The byte at a place; 0 past the end.
 pub fn byte_at(bytes: &[u8], at: usize) -> u8
@@ -13,23 +13,13 @@ pub fn byte_at(bytes: &[u8], at: usize) -> u8
     0
 }
 
-// The number of two bytes, low byte first.
-pub(crate) fn two_at(bytes: &[u8], at: usize) -> u16
-    requires { ⌜ at + 1 < 2 ^ 64 ⌝ }
-    ensures { λ r. ⌜ r ≡ twoAt (now (bytes .entry)) at ⌝ }
-{
-    let low = byte_at(bytes, at);
-    let high = byte_at(bytes, at + 1);
-    low as u16 + 256 * (high as u16)
-}
-
 // Whether the entry at a byte is of this kind and its body starts there.
 fn entry_at(file: &[u8], at: usize, kind: u8, start: usize) -> bool
-    requires { ⌜ at + 2 < 2 ^ 64 ⌝ }
+    requires { ⌜ at + 1 < 2 ^ 64 ⌝ }
     ensures { λ r. ⌜ r ≡ entryAt (now (file .entry)) at kind start ⌝ }
 {
     let found = byte_at(file, at);
-    let offset = two_at(file, at + 1);
+    let offset = crate::two_at(file, at + 1);
     if found == kind {
         return offset as usize == start;
     }
@@ -38,10 +28,10 @@ fn entry_at(file: &[u8], at: usize, kind: u8, start: usize) -> bool
 
 // The length that an entry states.
 fn entry_length(file: &[u8], at: usize) -> u16
-    requires { ⌜ at + 4 < 2 ^ 64 ⌝ }
+    requires { ⌜ at + 3 < 2 ^ 64 ⌝ }
     ensures { λ r. ⌜ r ≡ entryLength (now (file .entry)) at ⌝ }
 {
-    two_at(file, at + 3)
+    crate::two_at(file, at + 3)
 }
 
 // Where the schedule starts: after the plan, which starts at byte 11.

@@ -1,14 +1,10 @@
-// The night file: whether it is accepted or which of 1 to 6 it is refused with, its two parts, the plan and the items.
+// The night file: whether it is accepted or which of 1 to 6 it is refused with, its two parts and the plan.
 ghost use mathlib.Core.Path.{_≡_};
-ghost use Rattle.nightfile.specs.File.{fileNumber, fileAnswerNumber, planPart, schedulePart, planOf};
-ghost use Rattle.nightfile.specs.Items.{itemAnswerNumber, readAt};
-use acts::Action;
+ghost use Rattle.nightfile.specs.File.{twoAt, fileNumber, fileAnswerNumber, planPart, schedulePart, planOf};
 use plan::Plan;
 
 mod bodies;
 mod contents;
-mod held;
-mod items;
 
 // The answer to a file: accepted, or 1 to 6.
 pub enum FileAnswer {
@@ -19,37 +15,6 @@ pub enum FileAnswer {
     PlanOutOfRange,
     BytesLeftOver,
     BadItem,
-}
-
-// An item of the schedule: that many steps, or an action with its node and lock.
-pub enum Item {
-    Steps(u16),
-    Act { action: Action, node: u8, lock: u8 },
-}
-
-// What the item reader finds: no more items, an item, one or two bytes left over (5), or a first byte above 3 (6).
-pub enum ItemAnswer {
-    NoMore,
-    Found(Item),
-    LeftOver,
-    Bad,
-}
-
-// What was found, and the place afterwards.
-pub struct Reading {
-    pub answer: ItemAnswer,
-    pub at: usize,
-}
-
-// The place reached in a schedule.
-pub struct Cursor {
-    pub at: usize,
-}
-
-// A schedule's bytes and the place reached in them.
-pub struct Reader<'a> {
-    pub schedule: &'a [u8],
-    pub at: usize,
 }
 
 // The number of an answer to a file in 01; 0: accepted.
@@ -67,16 +32,16 @@ pub fn file_number(answer: FileAnswer) -> u8
     }
 }
 
-// The number of an item reader's answer in 01; 0: an item, or no more.
-pub fn item_number(answer: ItemAnswer) -> u8
-    ensures { λ r. ⌜ r ≡ itemAnswerNumber answer ⌝ }
+// The number of two bytes, low byte first; a byte past the end is 0.
+pub fn two_at(bytes: &[u8], at: usize) -> u16
+    ensures { λ r. ⌜ r ≡ twoAt (now (bytes .entry)) at ⌝ }
 {
-    match answer {
-        ItemAnswer::NoMore => 0,
-        ItemAnswer::Found(item) => 0,
-        ItemAnswer::LeftOver => 5,
-        ItemAnswer::Bad => 6,
+    if bytes.len() <= at {
+        return 0;
     }
+    let low = contents::byte_at(bytes, at);
+    let high = contents::byte_at(bytes, at + 1);
+    low as u16 + 256 * (high as u16)
 }
 
 // Whether a file is accepted, or the lowest of 1 to 6 that applies.
@@ -133,11 +98,4 @@ pub fn read_plan(part: &[u8]) -> Plan
         positions: contents::byte_at(part, 2),
         values: values,
     }
-}
-
-// What is found at the start of a schedule: through the reader that holds it, for callers that hold none.
-pub fn first_item(schedule: &[u8]) -> ItemAnswer
-    ensures { λ r. ⌜ r ≡ readAt (now (schedule .entry)) 0 .answer ⌝ }
-{
-    Reader::new(schedule).item()
 }

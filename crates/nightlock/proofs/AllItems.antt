@@ -4,12 +4,13 @@ use mathlib.Core.Path.{_≡_, refl, sym, ap, _∙_}
 use mathlib.Core.List.{List, [], _∷_}
 use native.Mathlib.Omega.{arith}
 use lib.ListN.{length}
-use Rattle.nightfile.specs.declared.Item.{Item}
-use Rattle.nightfile.specs.declared.Reading.{Reading}
-use Rattle.nightfile.specs.declared.ItemAnswer.the-variants.{NoMore}
+use Rattle.items.specs.declared.Item.{Item}
+use Rattle.items.specs.declared.Reading.{Reading}
+use Rattle.items.specs.declared.ItemAnswer.the-variants.{NoMore}
 use Rattle.nightfile.specs.File.{scheduleNumber, schedulePart}
-use Rattle.nightfile.specs.Items.{itemOf, reading, readAt}
-use Rattle.nightfile.proofs.Schedule.{Whole, whole, reads-on, reads-past, part-right}
+use Rattle.items.specs.Items.{itemOf, reading, readAt}
+use Rattle.nightfile.proofs.Schedule.{Whole, whole, part-right}
+use Rattle.items.proofs.ReadsOn.{reads-on, reads-past}
 use Rattle.run.specs.Whole.{andOthers, itemsWithin, itemsFrom}
 use Rattle.nightlock.specs.NightLock.{itemsOf}
 use Rattle.nightlock.specs.Corollaries.{AllItems}

@@ -16,8 +16,8 @@ use Rattle.ring.specs.declared.Happening.{Happening}
 use Rattle.ring.specs.State.{Told}
 use Rattle.ring.specs.Actions.{acting, actingSound}
 use Rattle.ring.specs.Step.{StepTold, stepping, steppingSound}
-use Rattle.nightfile.specs.declared.Item.{Item as FileItem}
-use Rattle.nightfile.specs.declared.Item.the-variants.{Steps, Act}
+use Rattle.items.specs.declared.Item.{Item as FileItem}
+use Rattle.items.specs.declared.Item.the-variants.{Steps, Act}
 use Rattle.run.specs.declared.Reached.{Reached}
 use Rattle.run.specs.declared.Run.{Run}
 use Rattle.run.specs.declared.Line.{Line}

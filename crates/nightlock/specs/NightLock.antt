@@ -6,10 +6,10 @@ use mathlib.Core.List.{List, [], _∷_, _++_}
 use lib.Dec.{eqb}
 use Rattle.cars.specs.Cars.{multiring}
 use Rattle.plan.specs.declared.Plan.{Plan}
-use Rattle.nightfile.specs.declared.Item.{Item as FileItem}
-use Rattle.nightfile.specs.declared.Item.the-variants.{Steps, Act}
+use Rattle.items.specs.declared.Item.{Item as FileItem}
+use Rattle.items.specs.declared.Item.the-variants.{Steps, Act}
 use Rattle.nightfile.specs.File.{planPart, schedulePart, planOf}
-use Rattle.nightfile.specs.Items.{itemOf}
+use Rattle.items.specs.Items.{itemOf}
 use Rattle.acts.specs.declared.Action.{Action}
 use Rattle.ring.specs.declared.State.{State}
 use Rattle.run.specs.declared.Reached.{Reached}

@@ -8,11 +8,11 @@ use lib.Dec.{T, leb, ltb}
 use lib.ListN.{length}
 use borrow.Author.Tests.{ltb-true, ltb-false, leb-true, leb-false}
 use Rattle.lines.proofs.Laws.{line-length-most}
-use Rattle.nightfile.specs.declared.Item.{Item}
-use Rattle.nightfile.specs.declared.Item.the-variants.{Steps, Act}
-use Rattle.nightfile.specs.declared.ItemAnswer.{ItemAnswer}
-use Rattle.nightfile.specs.declared.ItemAnswer.the-variants.{NoMore, Found, LeftOver, Bad}
-use Rattle.nightfile.specs.Items.{readAt}
+use Rattle.items.specs.declared.Item.{Item}
+use Rattle.items.specs.declared.Item.the-variants.{Steps, Act}
+use Rattle.items.specs.declared.ItemAnswer.{ItemAnswer}
+use Rattle.items.specs.declared.ItemAnswer.the-variants.{NoMore, Found, LeftOver, Bad}
+use Rattle.items.specs.Items.{readAt}
 use Rattle.run.specs.declared.Line.{Line}
 use Rattle.run.specs.declared.Run.{Run}
 use Rattle.run.specs.declared.Phase.{Phase}

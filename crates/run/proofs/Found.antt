@@ -7,12 +7,12 @@ use native.Mathlib.Omega.{arith}
 use lib.Dec.{leb, ltb}
 use lib.ListN.{length}
 use borrow.Author.Tests.{leb-false, ltb-false, le-leb}
-use Rattle.nightfile.specs.declared.Item.{Item}
-use Rattle.nightfile.specs.declared.ItemAnswer.{ItemAnswer}
-use Rattle.nightfile.specs.declared.ItemAnswer.the-variants.{NoMore, Found, LeftOver, Bad}
-use Rattle.nightfile.specs.declared.Reading.{Reading}
+use Rattle.items.specs.declared.Item.{Item}
+use Rattle.items.specs.declared.ItemAnswer.{ItemAnswer}
+use Rattle.items.specs.declared.ItemAnswer.the-variants.{NoMore, Found, LeftOver, Bad}
+use Rattle.items.specs.declared.Reading.{Reading}
 use Rattle.nightfile.specs.File.{byteAt}
-use Rattle.nightfile.specs.Items.{itemOf, reading, readAt}
+use Rattle.items.specs.Items.{itemOf, reading, readAt}
 use Rattle.run.specs.Whole.{andOthers, itemsWithin, itemsFrom}
 
 -- what is read at a place: no item, or an item that ends within the schedule

@@ -11,10 +11,10 @@ use Rattle.plan.specs.Plan.{inRange, nodeCount}
 use Rattle.plan.proofs.Laws.{nodes-count-most}
 use Rattle.zeronode.specs.Rules.{queuePlaces}
 use Rattle.acts.specs.declared.Action.{Action}
-use Rattle.nightfile.specs.declared.Item.{Item}
-use Rattle.nightfile.specs.declared.Item.the-variants.{Steps, Act}
-use Rattle.nightfile.specs.declared.ItemAnswer.the-variants.{Found}
-use Rattle.nightfile.specs.Items.{readAt}
+use Rattle.items.specs.declared.Item.{Item}
+use Rattle.items.specs.declared.Item.the-variants.{Steps, Act}
+use Rattle.items.specs.declared.ItemAnswer.the-variants.{Found}
+use Rattle.items.specs.Items.{readAt}
 use Rattle.ring.specs.declared.State.{State}
 use Rattle.ring.specs.Actions.{actionNumber, actedState, handedBack, actingSound}
 use Rattle.ring.specs.Step.{StepTold, stepNumber, nextState, refused, done, moving, steppingSound}

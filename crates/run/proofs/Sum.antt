@@ -7,8 +7,8 @@ use native.Mathlib.Nat.{zero-add}
 use native.Mathlib.Omega.{arith}
 use lib.Dec.{ltb}
 use borrow.Author.Tests.{ltb-true, ltb-false, lt-ltb, le-ltb, eq-eqb, ne-eqb}
-use Rattle.nightfile.specs.declared.Item.{Item}
-use Rattle.nightfile.specs.declared.Item.the-variants.{Steps, Act}
+use Rattle.items.specs.declared.Item.{Item}
+use Rattle.items.specs.declared.Item.the-variants.{Steps, Act}
 use Rattle.nightfile.specs.File.{fileNumber, schedulePart}
 use Rattle.run.specs.declared.Reached.{Reached}
 use Rattle.run.specs.declared.Run.{Run}

@@ -7,10 +7,10 @@ use native.Mathlib.Omega.{arith}
 use lib.ListN.{length}
 use borrow.Author.Tests.{lt-ltb, le-ltb, eq-eqb}
 use Rattle.acts.specs.declared.Action.{Action}
-use Rattle.nightfile.specs.declared.Item.{Item}
-use Rattle.nightfile.specs.declared.Item.the-variants.{Steps, Act}
-use Rattle.nightfile.specs.declared.ItemAnswer.the-variants.{Found}
-use Rattle.nightfile.specs.Items.{readAt}
+use Rattle.items.specs.declared.Item.{Item}
+use Rattle.items.specs.declared.Item.the-variants.{Steps, Act}
+use Rattle.items.specs.declared.ItemAnswer.the-variants.{Found}
+use Rattle.items.specs.Items.{readAt}
 use Rattle.run.specs.declared.Run.{Run}
 use Rattle.run.specs.declared.Phase.the-variants.{Items, Ended, Cut}
 use Rattle.run.specs.Standing.{nodesOf, oneStep, past, stepsItem, atEnd}

@@ -3,11 +3,11 @@ use Prim.Native.Nat.{ℕ}
 use mathlib.Core.Bool.{Bool, cond, true, false, _&&_, _||_}
 use mathlib.Core.List.{List}
 use lib.Dec.{eqb, ltb}
-use Rattle.nightfile.specs.declared.Item.{Item}
-use Rattle.nightfile.specs.declared.Item.the-variants.{Steps, Act}
-use Rattle.nightfile.specs.declared.ItemAnswer.{ItemAnswer}
-use Rattle.nightfile.specs.declared.ItemAnswer.the-variants.{NoMore, Found, LeftOver, Bad}
-use Rattle.nightfile.specs.Items.{readAt}
+use Rattle.items.specs.declared.Item.{Item}
+use Rattle.items.specs.declared.Item.the-variants.{Steps, Act}
+use Rattle.items.specs.declared.ItemAnswer.{ItemAnswer}
+use Rattle.items.specs.declared.ItemAnswer.the-variants.{NoMore, Found, LeftOver, Bad}
+use Rattle.items.specs.Items.{readAt}
 use Rattle.run.specs.declared.Line.{Line}
 use Rattle.run.specs.declared.Run.{Run}
 use Rattle.run.specs.declared.Saying.{Saying}

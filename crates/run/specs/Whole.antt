@@ -5,11 +5,11 @@ use mathlib.Core.Bool.{cond}
 use mathlib.Core.List.{List, [], _∷_}
 use lib.Dec.{ltb}
 use lib.ListN.{length}
-use Rattle.nightfile.specs.declared.Item.{Item}
-use Rattle.nightfile.specs.declared.Item.the-variants.{Steps, Act}
-use Rattle.nightfile.specs.declared.ItemAnswer.{ItemAnswer}
-use Rattle.nightfile.specs.declared.ItemAnswer.the-variants.{NoMore, Found, LeftOver, Bad}
-use Rattle.nightfile.specs.Items.{readAt}
+use Rattle.items.specs.declared.Item.{Item}
+use Rattle.items.specs.declared.Item.the-variants.{Steps, Act}
+use Rattle.items.specs.declared.ItemAnswer.{ItemAnswer}
+use Rattle.items.specs.declared.ItemAnswer.the-variants.{NoMore, Found, LeftOver, Bad}
+use Rattle.items.specs.Items.{readAt}
 use Rattle.run.specs.declared.Line.{Line}
 use Rattle.run.specs.declared.Run.{Run}
 use Rattle.run.specs.declared.Phase.{Phase}

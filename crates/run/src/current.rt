@@ -14,9 +14,9 @@ use crate::Reached;
 use crate::Run;
 use crate::Saying;
 use acts::Action;
-use nightfile::Cursor;
-use nightfile::Item;
-use nightfile::ItemAnswer;
+use items::Cursor;
+use items::Item;
+use items::ItemAnswer;
 use tally::LOCKS;
 use turns::Event;
 

@@ -10,9 +10,9 @@ ghost use Rattle.run.specs.Current.{ready};
 use crate::Phase;
 use crate::Reached;
 use crate::Run;
-use nightfile::Cursor;
-use nightfile::Item;
-use nightfile::ItemAnswer;
+use items::Cursor;
+use items::Item;
+use items::ItemAnswer;
 use turns::Event;
 
 // Whether something happened.

@@ -1,4 +1,4 @@
--- One theorem for each public function of the night file, the line writer, the tally and the run: two answers that keep its promise are equal. A
+-- One theorem for each public function of the night file, its items, the line writer, the tally and the run: two answers that keep its promise are equal. A
 -- part of the caller's file is told by its bytes; a line's answer stands with the buffer's content.
 use Prim.Native.Nat.{ℕ}
 use mathlib.Core.Path.{_≡_, _∙_, sym}
@@ -8,10 +8,10 @@ use denote.Ref.{RefT}
 use Rattle.usernode.specs.declared.Node.{Node}
 use Rattle.ring.specs.declared.Happening.{Happening}
 use Rattle.nightfile.specs.declared.FileAnswer.{FileAnswer}
-use Rattle.nightfile.specs.declared.ItemAnswer.{ItemAnswer}
-use Rattle.nightfile.specs.declared.Reader.{Reader}
-use Rattle.nightfile.specs.File.{fileAnswerNumber, fileNumber, planPart, schedulePart, planOf}
-use Rattle.nightfile.specs.Items.{itemAnswerNumber, readAt}
+use Rattle.items.specs.declared.ItemAnswer.{ItemAnswer}
+use Rattle.items.specs.declared.Reader.{Reader}
+use Rattle.nightfile.specs.File.{twoAt, fileAnswerNumber, fileNumber, planPart, schedulePart, planOf}
+use Rattle.items.specs.Items.{itemAnswerNumber, readAt}
 use Rattle.lines.specs.declared.Written.{Written}
 use Rattle.lines.specs.Line.{line, bufferAfter, writtenNumber, writtenTold, writing}
 use Rattle.tally.specs.declared.Tally.{Tally}
@@ -28,8 +28,8 @@ use Rattle.settled.proofs.Apart.{settled, settled-by, file-apart, writt
 pub file-number-settled : (answer : FileAnswer) → Settled (λ r. r ≡ fileAnswerNumber answer)
 file-number-settled answer = settled (fileAnswerNumber answer)
 
-pub item-number-settled : (answer : ItemAnswer) → Settled (λ r. r ≡ itemAnswerNumber answer)
-item-number-settled answer = settled (itemAnswerNumber answer)
+pub two-at-settled : (bytes : List ℕ) (at : ℕ) → Settled (λ r. r ≡ twoAt bytes at)
+two-at-settled bytes at = settled (twoAt bytes at)
 
 pub test-file-settled : (file : List ℕ) → Settled (λ r. fileAnswerNumber r ≡ fileNumber file)
 test-file-settled file = settled-by fileAnswerNumber file-apart (fileNumber file)
@@ -42,6 +42,10 @@ schedule-part-settled file = settled (schedulePart file)
 
 pub read-plan-settled : (part : List ℕ) → Settled (λ r. r ≡ planOf part)
 read-plan-settled part = settled (planOf part)
+
+-- items
+pub item-number-settled : (answer : ItemAnswer) → Settled (λ r. r ≡ itemAnswerNumber answer)
+item-number-settled answer = settled (itemAnswerNumber answer)
 
 pub read-settled : (schedule : List ℕ) (at : ℕ) → Settled (λ r. r ≡ readAt schedule at)
 read-settled schedule at = settled (readAt schedule at)

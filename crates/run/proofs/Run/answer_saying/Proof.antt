@@ -1,7 +1,7 @@
 -- `Run::answer_saying` meets its contract. On each way to a return, the tests and calls on the way choose the case of the definition.
 use mathlib.Core.Path.{ap, sym, _∙_}
-use Rattle.nightfile.specs.declared.ItemAnswer.{ItemAnswer}
-use Rattle.nightfile.specs.declared.Reading.{Reading}
+use Rattle.items.specs.declared.ItemAnswer.{ItemAnswer}
+use Rattle.items.specs.declared.Reading.{Reading}
 use Rattle.run.proofs.Found.{found-moves}
 use Rattle.run.specs.Current.{answerSaying, answerHere}
 use borrow.Author.Needs.{needs}

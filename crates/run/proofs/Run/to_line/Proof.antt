@@ -1,9 +1,9 @@
 -- `Run::to_line` meets its contract. Each turn of its loop leaves the run's course as it was, and brings the run nearer to its next line.
 use mathlib.Core.Path.{sym, ap, _∙_}
 use borrow.Author.Needs.{needs}
-use Rattle.nightfile.specs.declared.ItemAnswer.{ItemAnswer}
-use Rattle.nightfile.specs.declared.ItemAnswer.the-variants.{Found}
-use Rattle.nightfile.specs.declared.Reading.{Reading}
+use Rattle.items.specs.declared.ItemAnswer.{ItemAnswer}
+use Rattle.items.specs.declared.ItemAnswer.the-variants.{Found}
+use Rattle.items.specs.declared.Reading.{Reading}
 use Rattle.ring.specs.Walk.{quiet}
 use Rattle.run.specs.Standing.{past, stepsItem}
 use Rattle.run.specs.Wording.{eventHere}

@@ -1,0 +1,57 @@
+// The items of a schedule: what the item reader finds at a place, and the place afterwards.
+ghost use mathlib.Core.Path.{_≡_};
+ghost use Rattle.items.specs.Items.{itemAnswerNumber, readAt};
+use acts::Action;
+
+mod held;
+mod lent;
+
+// An item of the schedule: that many steps, or an action with its node and lock.
+pub enum Item {
+    Steps(u16),
+    Act { action: Action, node: u8, lock: u8 },
+}
+
+// What the item reader finds: no more items, an item, one or two bytes left over (5), or a first byte above 3 (6).
+pub enum ItemAnswer {
+    NoMore,
+    Found(Item),
+    LeftOver,
+    Bad,
+}
+
+// What was found, and the place afterwards.
+pub struct Reading {
+    pub answer: ItemAnswer,
+    pub at: usize,
+}
+
+// The place reached in a schedule.
+pub struct Cursor {
+    pub at: usize,
+}
+
+// A schedule's bytes and the place reached in them.
+pub struct Reader<'a> {
+    pub schedule: &'a [u8],
+    pub at: usize,
+}
+
+// The number of an item reader's answer in 01; 0: an item, or no more.
+pub fn item_number(answer: ItemAnswer) -> u8
+    ensures { λ r. ⌜ r ≡ itemAnswerNumber answer ⌝ }
+{
+    match answer {
+        ItemAnswer::NoMore => 0,
+        ItemAnswer::Found(item) => 0,
+        ItemAnswer::LeftOver => 5,
+        ItemAnswer::Bad => 6,
+    }
+}
+
+// What is found at the start of a schedule: through the reader that holds it, for callers that hold none.
+pub fn first_item(schedule: &[u8]) -> ItemAnswer
+    ensures { λ r. ⌜ r ≡ readAt (now (schedule .entry)) 0 .answer ⌝ }
+{
+    Reader::new(schedule).item()
+}
