@@ -1,9 +1,9 @@
 // The night program: a night file from standard input, the lines of its run to standard output. It reads and writes; the
 // model decides all else.
+use course::Run;
 use libc::STDIN_FILENO;
 use libc::STDOUT_FILENO;
 use run::NIGHT_CEILING;
-use run::Run;
 
 // Writes bytes to standard output, and says where that fails.
 fn write_out(bytes: &[u8]) -> bool {
@@ -19,7 +19,7 @@ fn write_lines(start: Run, schedule: &[u8]) {
     let mut buffer = io::large_buffer();
     let mut run = start;
     loop {
-        let filled = run.fill(schedule, NIGHT_CEILING, &mut buffer);
+        let filled = run::fill(run, schedule, NIGHT_CEILING, &mut buffer);
         let used = filled.used;
         if !write_out(&buffer[..used]) {
             return;
@@ -42,6 +42,6 @@ fn main() {
     let length = input.length;
     let file = &buffer[..length];
     let schedule = nightfile::schedule_part(file);
-    let start = run::begin(file);
+    let start = course::begin(file);
     write_lines(start, schedule);
 }

@@ -11,7 +11,7 @@ use Rattle.nightfile.specs.File.{scheduleNumber, schedulePart}
 use Rattle.items.specs.Items.{itemOf, reading, readAt}
 use Rattle.nightfile.proofs.Schedule.{Whole, whole, part-right}
 use Rattle.items.proofs.ReadsOn.{reads-on, reads-past}
-use Rattle.run.specs.Whole.{andOthers, itemsWithin, itemsFrom}
+use Rattle.course.specs.Whole.{andOthers, itemsWithin, itemsFrom}
 use Rattle.nightlock.specs.NightLock.{itemsOf}
 use Rattle.nightlock.specs.Corollaries.{AllItems}
 

@@ -8,10 +8,10 @@ use Rattle.ring.specs.State.{Told, startOf, startState}
 use Rattle.ring.specs.Actions.{actingSound}
 use Rattle.ring.specs.Step.{StepTold, steppingSound}
 use Rattle.nightfile.specs.File.{fileNumber, schedulePart}
-use Rattle.run.specs.Standing.{nodesOf, beginning, reachedNext, actionItem}
-use Rattle.run.specs.Whole.{tellingAll, manySteps, itemsFrom, onItems, onSteps, working}
+use Rattle.course.specs.Standing.{nodesOf, beginning, reachedNext, actionItem}
+use Rattle.course.specs.Whole.{tellingAll, manySteps, itemsFrom, onItems, onSteps, working}
 use Rattle.run.specs.Outcomes.{outcomeOf, fileCourse, fileOutcome}
-use Rattle.run.proofs.Moves.{AtItems, course-items, withNext}
+use Rattle.course.proofs.Moves.{AtItems, course-items, withNext}
 use Rattle.onelock.specs.OneLock.{Item, step, act, afterItem, afterAll, reached, history}
 use Rattle.onelock.proofs.Theorems.{never-stuck}
 use Rattle.nightlock.specs.NightLock.{planIn, itemsIn, stepsAmong, at-first, by-step, by-action}

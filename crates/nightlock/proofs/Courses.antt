@@ -18,15 +18,15 @@ use Rattle.ring.specs.Actions.{acting, actingSound}
 use Rattle.ring.specs.Step.{StepTold, stepping, steppingSound}
 use Rattle.items.specs.declared.Item.{Item as FileItem}
 use Rattle.items.specs.declared.Item.the-variants.{Steps, Act}
-use Rattle.run.specs.declared.Reached.{Reached}
-use Rattle.run.specs.declared.Run.{Run}
-use Rattle.run.specs.declared.Line.{Line}
-use Rattle.run.specs.declared.Phase.the-variants.{Ended, Cut}
-use Rattle.run.specs.Standing.{nodesOf, reachedNext, oneStep, past, stepsItem, actionItem, atEnd, allSaid}
-use Rattle.run.specs.Wording.{eventHere, isEvent, eventLine, actionLine, lockLine, lastLine}
-use Rattle.run.specs.Whole.{Said, Course, says, silence, telling, tellingAll, closing, closingAll, manySteps, items}
+use Rattle.course.specs.declared.Reached.{Reached}
+use Rattle.course.specs.declared.Run.{Run}
+use Rattle.course.specs.declared.Line.{Line}
+use Rattle.course.specs.declared.Phase.the-variants.{Ended, Cut}
+use Rattle.course.specs.Standing.{nodesOf, reachedNext, oneStep, past, stepsItem, actionItem, atEnd, allSaid}
+use Rattle.course.specs.Wording.{eventHere, isEvent, eventLine, actionLine, lockLine, lastLine}
+use Rattle.course.specs.Whole.{Said, Course, says, silence, telling, tellingAll, closing, closingAll, manySteps, items}
 use Rattle.run.specs.Outcomes.{isCut}
-use Rattle.run.proofs.Moves.{withNext, step-nodes}
+use Rattle.course.proofs.Moves.{withNext, step-nodes}
 use Rattle.onelock.specs.OneLock.{Item, step, act, afterItem, reached, Deed, deedOf, deedsOf, deedsIn}
 use Rattle.onelock.proofs.Run.Reached.{plan-reached}
 use Rattle.nightlock.specs.NightLock.{planIn, manySteps as itemSteps, asItems, itemsIn, stepsAmong, Stands, EachSaid, reports, reported}

@@ -18,10 +18,10 @@ use Rattle.ring.specs.declared.Happening.{Happening}
 use Rattle.ring.specs.State.{Told}
 use Rattle.ring.specs.Actions.{acting, actingSound}
 use Rattle.ring.specs.Walk.{quiet}
-use Rattle.run.specs.declared.Run.{Run}
-use Rattle.run.specs.declared.Phase.{Phase}
-use Rattle.run.specs.declared.Phase.the-variants.{Items, Ended, Cut, Refused}
-use Rattle.run.specs.Wording.{lineOf, eventHere, isEvent, eventLine, actionLetter, actionRefusal, actionLine, endLetter, lockLine, lastLine}
+use Rattle.course.specs.declared.Run.{Run}
+use Rattle.course.specs.declared.Phase.{Phase}
+use Rattle.course.specs.declared.Phase.the-variants.{Items, Ended, Cut, Refused}
+use Rattle.course.specs.Wording.{lineOf, eventHere, isEvent, eventLine, actionLetter, actionRefusal, actionLine, endLetter, lockLine, lastLine}
 use Rattle.onelock.specs.OneLock.{Item, act, afterItem, Deed, ended, deedIf, deedOf, deedsIn, deedsOf, releases, Time, Moment, timeOf, doneAfter, noted, historyFrom}
 use Rattle.nightlock.specs.NightLock.{reports, deedsOfAll}
 

@@ -7,7 +7,7 @@ use lib.ListN.{length}
 use Rattle.ring.specs.declared.State.{State}
 use Rattle.ring.specs.Step.{steppingSound}
 use Rattle.nightfile.specs.File.{fileNumber, schedulePart}
-use Rattle.run.specs.Whole.{itemsFrom}
+use Rattle.course.specs.Whole.{itemsFrom}
 use Rattle.run.specs.Outcomes.{fileCourse, fileOutcome}
 use Rattle.onelock.specs.OneLock.{Item, reached, history}
 use Rattle.nightlock.specs.NightLock.{planIn, itemsOf, PassesThrough, IsReached, Stands, EachSaid, reported, deedsOfAll}

@@ -12,11 +12,11 @@ use Rattle.nightfile.specs.File.{planPart, schedulePart, planOf}
 use Rattle.items.specs.Items.{itemOf}
 use Rattle.acts.specs.declared.Action.{Action}
 use Rattle.ring.specs.declared.State.{State}
-use Rattle.run.specs.declared.Reached.{Reached}
-use Rattle.run.specs.declared.Run.{Run}
-use Rattle.run.specs.declared.Line.{Line}
-use Rattle.run.specs.Standing.{beginning, reachedNext, actionItem}
-use Rattle.run.specs.Whole.{Said, itemsFrom}
+use Rattle.course.specs.declared.Reached.{Reached}
+use Rattle.course.specs.declared.Run.{Run}
+use Rattle.course.specs.declared.Line.{Line}
+use Rattle.course.specs.Standing.{beginning, reachedNext, actionItem}
+use Rattle.course.specs.Whole.{Said, itemsFrom}
 use Rattle.onelock.specs.OneLock.{Item, step, act, reached, Deed, granted, ended, deedIf, Moment}
 
 -- the plan of a file, and its items as a schedule: an item of so many steps is so many steps

@@ -13,17 +13,18 @@ use Rattle.items.specs.declared.Item.the-variants.{Steps, Act}
 use Rattle.items.specs.declared.ItemAnswer.{ItemAnswer}
 use Rattle.items.specs.declared.ItemAnswer.the-variants.{NoMore, Found, LeftOver, Bad}
 use Rattle.items.specs.Items.{readAt}
-use Rattle.run.specs.declared.Line.{Line}
-use Rattle.run.specs.declared.Run.{Run}
-use Rattle.run.specs.declared.Phase.{Phase}
-use Rattle.run.specs.declared.Phase.the-variants.{Items, Ended, Cut, Refused}
-use Rattle.run.specs.Standing.{nodesOf, oneStep, past, stepsItem, atEnd}
-use Rattle.run.specs.Wording.{text, eventHere, isEvent}
-use Rattle.run.specs.Whole.{Course, says, silence, course, andOthers}
-use Rattle.run.specs.Current.{readyIn, ready, sayingNow}
+use Rattle.course.specs.declared.Line.{Line}
+use Rattle.course.specs.declared.Run.{Run}
+use Rattle.course.specs.declared.Phase.{Phase}
+use Rattle.course.specs.declared.Phase.the-variants.{Items, Ended, Cut, Refused}
+use Rattle.course.specs.Standing.{nodesOf, oneStep, past, stepsItem, atEnd}
+use Rattle.course.specs.Wording.{text, eventHere, isEvent}
+use Rattle.course.specs.Whole.{Course, says, silence, course, andOthers}
+use Rattle.course.specs.Ready.{readyIn, ready}
+use Rattle.run.specs.Current.{sayingNow}
 use Rattle.run.specs.Filling.{texts, fitting, stopsAt, written, filling, inBuffers, afterBuffers}
 use Rattle.run.proofs.Ready.{ready-goes, course-over}
-use Rattle.run.proofs.Way.{Way, toGo, sets-out, way-past, way-step, way-steps, past-nearer, step-nearer, steps-nearer, at-event, at-action, at-ceiling, at-items-end}
+use Rattle.course.proofs.Way.{Way, toGo, sets-out, way-past, way-step, way-steps, past-nearer, step-nearer, steps-nearer, at-event, at-action, at-ceiling, at-items-end}
 use Rattle.run.proofs.Fills.{stopsIn, stops-fits, stops-full, written-fits, written-full, fewer-lines}
 
 -- the run at its next line: the course is the same

@@ -1,13 +1,13 @@
--- For callers of `Run::fill`: the bytes that it uses are bytes of the buffer, and a loop that fills buffers ends.
+-- For callers of `fill`: the bytes that it uses are bytes of the buffer, and a loop that fills buffers ends.
 use Prim.Native.Nat.{ℕ, _≤_, _<_}
 use mathlib.Core.Path.{_≡_, _∙_, sym, ap, subst}
 use mathlib.Core.Bool.{false}
 use mathlib.Core.List.{List}
 use native.Mathlib.Omega.{arith}
 use lib.ListN.{length, drop, length-append}
-use Rattle.run.specs.declared.Run.{Run}
+use Rattle.course.specs.declared.Run.{Run}
 use Rattle.run.specs.declared.Filled.{Filled}
-use Rattle.run.specs.Whole.{Course, course}
+use Rattle.course.specs.Whole.{Course, course}
 use Rattle.run.specs.Filling.{written, filling, filledBuffer}
 use Rattle.run.proofs.Buffers.{buffer-nearer}
 

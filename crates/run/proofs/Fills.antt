@@ -10,12 +10,13 @@ use lib.Seq.{length-take-le, take-at, drop-at, drop-drop}
 use borrow.Author.Tests.{le-leb, lt-leb, leb-true, leb-false}
 use Rattle.lines.specs.Line.{bufferAfter}
 use Rattle.lines.proofs.Laws.{line-length}
-use Rattle.run.specs.declared.Run.{Run}
-use Rattle.run.specs.declared.Line.{Line}
+use Rattle.course.specs.declared.Run.{Run}
+use Rattle.course.specs.declared.Line.{Line}
 use Rattle.run.specs.declared.Saying.{Saying}
-use Rattle.run.specs.Wording.{text}
-use Rattle.run.specs.Whole.{Course, says, silence, course}
-use Rattle.run.specs.Current.{ready, sayingNow}
+use Rattle.course.specs.Wording.{text}
+use Rattle.course.specs.Whole.{Course, says, silence, course}
+use Rattle.course.specs.Ready.{ready}
+use Rattle.run.specs.Current.{sayingNow}
 use Rattle.run.specs.Filling.{texts, fitting, stopsAt, written, filling, filledBuffer}
 use Rattle.run.proofs.Ready.{ready-goes, course-over}
 

@@ -11,15 +11,16 @@ use Rattle.items.specs.declared.Item.{Item}
 use Rattle.items.specs.declared.Item.the-variants.{Steps, Act}
 use Rattle.items.specs.declared.ItemAnswer.{ItemAnswer}
 use Rattle.items.specs.declared.ItemAnswer.the-variants.{NoMore, Found, LeftOver, Bad}
-use Rattle.run.specs.declared.Run.{Run}
+use Rattle.course.specs.declared.Run.{Run}
 use Rattle.run.specs.declared.Saying.{Saying}
-use Rattle.run.specs.declared.Phase.{Phase}
-use Rattle.run.specs.declared.Phase.the-variants.{Items, Ended, Cut, Refused}
-use Rattle.run.specs.Standing.{nodesOf, locksOf, past, allSaid}
-use Rattle.run.specs.Wording.{eventHere, isEvent, eventLine, lockLine, lastLine, refusalLine}
-use Rattle.run.specs.Whole.{says, silence, closing, closingAll, courseIn, course}
-use Rattle.run.specs.Current.{saying, answerHere, isAct, isAction, readyIn, ready, actSaying, answerSaying, endSaying, sayingIn, sayingNow}
-use Rattle.run.proofs.Moves.{AtItems, on-event, on-action}
+use Rattle.course.specs.declared.Phase.{Phase}
+use Rattle.course.specs.declared.Phase.the-variants.{Items, Ended, Cut, Refused}
+use Rattle.course.specs.Standing.{nodesOf, locksOf, past, allSaid}
+use Rattle.course.specs.Wording.{eventHere, isEvent, eventLine, lockLine, lastLine, refusalLine}
+use Rattle.course.specs.Whole.{says, silence, closing, closingAll, courseIn, course}
+use Rattle.course.specs.Ready.{answerHere, isAct, isAction, readyIn, ready}
+use Rattle.run.specs.Current.{saying, actSaying, answerSaying, endSaying, sayingIn, sayingNow}
+use Rattle.course.proofs.Moves.{AtItems, on-event, on-action}
 
 not-so : false ≡ true → ⊥
 not-so e = subst T (sym e) tt

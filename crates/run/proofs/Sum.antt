@@ -10,17 +10,17 @@ use borrow.Author.Tests.{ltb-true, ltb-false, lt-ltb, le-ltb, eq-eqb, ne-eqb}
 use Rattle.items.specs.declared.Item.{Item}
 use Rattle.items.specs.declared.Item.the-variants.{Steps, Act}
 use Rattle.nightfile.specs.File.{fileNumber, schedulePart}
-use Rattle.run.specs.declared.Reached.{Reached}
-use Rattle.run.specs.declared.Run.{Run}
-use Rattle.run.specs.declared.Phase.{Phase}
-use Rattle.run.specs.declared.Phase.the-variants.{Ended, Cut, Refused}
-use Rattle.run.specs.Standing.{nodesOf, beginning, reachedNext, oneStep, past, stepsItem, actionItem, atEnd, allSaid}
+use Rattle.course.specs.declared.Reached.{Reached}
+use Rattle.course.specs.declared.Run.{Run}
+use Rattle.course.specs.declared.Phase.{Phase}
+use Rattle.course.specs.declared.Phase.the-variants.{Ended, Cut, Refused}
+use Rattle.course.specs.Standing.{nodesOf, beginning, reachedNext, oneStep, past, stepsItem, actionItem, atEnd, allSaid}
 use Rattle.lines.specs.Line.{line}
 use Rattle.run.specs.Filling.{texts}
-use Rattle.run.specs.Wording.{text, lineOf, eventHere, isEvent, refusalLine, endLetter}
-use Rattle.run.specs.Whole.{Course, says, silence, telling, tellingAll, closing, closingAll, manySteps, items, itemsFrom, onItems, onSteps, working, courseIn, course}
-use Rattle.run.proofs.Moves.{AtItems, course-items, withNext}
-use Rattle.run.specs.Outcomes.{refusalOf, isCut, outcomeOf, fileCourse, fileOutcome, fileText, stepsIn, scheduleSum}
+use Rattle.course.specs.Wording.{text, lineOf, eventHere, isEvent, refusalLine, endLetter}
+use Rattle.course.specs.Whole.{Course, says, silence, telling, tellingAll, closing, closingAll, manySteps, items, itemsFrom, stepsIn, onItems, onSteps, working, courseIn, course}
+use Rattle.course.proofs.Moves.{AtItems, course-items, withNext}
+use Rattle.run.specs.Outcomes.{refusalOf, isCut, outcomeOf, fileCourse, fileOutcome, fileText, scheduleSum}
 
 -- a course that ends with the smaller of the ceiling and a sum
 pub record Ends (ceiling sum : ℕ) (c : Course) : Type 0 where

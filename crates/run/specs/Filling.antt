@@ -4,10 +4,10 @@ use mathlib.Core.Bool.{cond}
 use mathlib.Core.List.{List, [], _∷_, _++_}
 use lib.Dec.{leb}
 use lib.ListN.{length, drop}
-use Rattle.run.specs.declared.Run.{Run}
+use Rattle.course.specs.declared.Run.{Run}
 use Rattle.run.specs.declared.Filled.{Filled}
-use Rattle.run.specs.Wording.{text}
-use Rattle.run.specs.Whole.{Said, Course, course}
+use Rattle.course.specs.Wording.{text}
+use Rattle.course.specs.Whole.{Said, Course, course}
 
 -- the lines as they are written, one after the other
 unfoldable pub texts : List Said → List ℕ

@@ -1,17 +1,15 @@
 -- 01, "The run and its lines": the result of a run, and the lines of a file.
-use Prim.Native.Nat.{ℕ, _+_}
+use Prim.Native.Nat.{ℕ}
 use mathlib.Core.Bool.{Bool, true, false}
-use mathlib.Core.List.{List, [], _∷_}
-use Rattle.items.specs.declared.Item.{Item}
-use Rattle.items.specs.declared.Item.the-variants.{Steps, Act}
+use mathlib.Core.List.{List}
 use Rattle.nightfile.specs.File.{schedulePart}
 use Rattle.tally.specs.Tally.{sumOf}
-use Rattle.run.specs.declared.Run.{Run}
-use Rattle.run.specs.declared.Phase.{Phase}
-use Rattle.run.specs.declared.Phase.the-variants.{Items, Ended, Cut, Refused}
+use Rattle.course.specs.declared.Run.{Run}
+use Rattle.course.specs.declared.Phase.{Phase}
+use Rattle.course.specs.declared.Phase.the-variants.{Items, Ended, Cut, Refused}
 use Rattle.run.specs.declared.Outcome.{Outcome}
-use Rattle.run.specs.Standing.{locksOf, beginning}
-use Rattle.run.specs.Whole.{course, itemsFrom, Course}
+use Rattle.course.specs.Standing.{locksOf, beginning}
+use Rattle.course.specs.Whole.{Course, course, itemsFrom, stepsIn}
 use Rattle.run.specs.Filling.{texts}
 
 -- the number that the file is refused with; 0: none
@@ -52,10 +50,5 @@ unfoldable pub fileText : ℕ → List ℕ → List ℕ
 fileText ceiling file = texts (fileCourse ceiling file .lines)
 
 -- "the schedule's sum": the steps of all its items
-unfoldable pub stepsIn : List Item → ℕ
-stepsIn [] = 0
-stepsIn (Steps n ∷ rest) = n + stepsIn rest
-stepsIn (Act action node lock ∷ rest) = stepsIn rest
-
 unfoldable pub scheduleSum : List ℕ → ℕ
 scheduleSum schedule = stepsIn (itemsFrom schedule 0)

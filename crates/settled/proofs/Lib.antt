@@ -1,3 +1,4 @@
 pub mod Apart
+pub mod Stands
 pub mod Model
 pub mod Night

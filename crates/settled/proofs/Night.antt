@@ -1,7 +1,8 @@
--- One theorem for each public function of the night file, its items, the line writer, the tally and the run: two answers that keep its promise are equal. A
--- part of the caller's file is told by its bytes; a line's answer stands with the buffer's content.
+-- One theorem for each public function of the night file, its items, the line writer, the tally, the course and the run: two answers that keep its
+-- promise are equal. A part of the caller's file is told by its bytes; a line's answer stands with the buffer's content.
 use Prim.Native.Nat.{ℕ}
-use mathlib.Core.Path.{_≡_, _∙_, sym}
+use mathlib.Core.Path.{_≡_, _∙_, sym, ap}
+use mathlib.Core.Bool.{true}
 use mathlib.Core.List.{List}
 use lib.ListN.{length}
 use denote.Ref.{RefT}
@@ -16,13 +17,15 @@ use Rattle.lines.specs.declared.Written.{Written}
 use Rattle.lines.specs.Line.{line, bufferAfter, writtenNumber, writtenTold, writing}
 use Rattle.tally.specs.declared.Tally.{Tally}
 use Rattle.tally.specs.Tally.{emptyTally, stepTally, sumOf}
-use Rattle.run.specs.declared.Run.{Run}
-use Rattle.run.specs.Standing.{beginning}
-use Rattle.run.specs.Whole.{course}
+use Rattle.course.specs.declared.Run.{Run}
+use Rattle.course.specs.Standing.{beginning, nodesOf}
+use Rattle.course.specs.Whole.{course}
+use Rattle.course.specs.Ready.{ready}
 use Rattle.run.specs.Filling.{filling, filledBuffer}
 use Rattle.run.specs.Outcomes.{fileOutcome}
 use Rattle.settled.specs.Settled.{Settled}
 use Rattle.settled.proofs.Apart.{settled, settled-by, file-apart, written-apart}
+use Rattle.settled.proofs.Stands.{stands, ready-stands}
 
 -- nightfile
 pub file-number-settled : (answer : FileAnswer) → Settled (λ r. r ≡ fileAnswerNumber answer)
@@ -78,10 +81,20 @@ step-tally-settled nodes events count locks tally = settled (stepTally nodes eve
 pub sum-of-settled : (counts : List ℕ) (locks : ℕ) → Settled (λ r. r ≡ sumOf counts locks)
 sum-of-settled counts locks = settled (sumOf counts locks)
 
--- run
+-- course
 pub begin-settled : (file : List ℕ) → Settled (λ r. r ≡ beginning file)
 begin-settled file = settled (beginning file)
 
+pub run-nodes-settled : (run : Run) → Settled (λ r. r ≡ nodesOf run)
+run-nodes-settled run = settled (nodesOf run)
+
+-- the run at its next line: its course is the one of the run it was, and the run is read off that course
+pub onward-settled : (schedule : List ℕ) (ceiling : ℕ) (run : Run)
+    → Settled (λ r. (course ceiling schedule r ≡ course ceiling schedule run) × (ready schedule r ≡ true))
+onward-settled schedule ceiling run a b p q =
+    sym (ready-stands ceiling schedule a (p .1)) ∙ ap stands (p .0 ∙ sym (q .0)) ∙ ready-stands ceiling schedule b (q .1)
+
+-- run
 pub fill-settled : (buffer schedule : List ℕ) (ceiling : ℕ) (run : Run) → Settled (λ r. r ≡ filling (length buffer) (course ceiling schedule run))
 fill-settled buffer schedule ceiling run = settled (filling (length buffer) (course ceiling schedule run))
 

@@ -4,7 +4,7 @@ use native.Mathlib.Omega.{arith}
 use lib.ListN.{length}
 use borrow.Author.Needs.{needs}
 use Rattle.io.proofs.Counting.{front}
-use Rattle.run.specs.Whole.{course}
+use Rattle.course.specs.Whole.{course}
 use Rattle.run.proofs.Callers.{used-within, fewer-left}
 use Rattle.night.proofs.write_lines.Statement.{statement}
 use Rattle.night.proofs.write_lines.Tie as tie
@@ -12,7 +12,7 @@ use Rattle.night.proofs.write_lines.Reads as reads
 use Rattle.night.proofs.write_lines.Lts as lts
 use Rattle.io.proofs.large_buffer.Reads as large-buffer-reads
 use Rattle.night.proofs.write_out.Reads as write-out-reads
-use Rattle.run.proofs.Run.fill.Reads as fill-reads
+use Rattle.run.proofs.fill.Reads as fill-reads
 
 abbrev Inv-loop : tie.InvT-loop
 Inv-loop schedule buffer₀ run₀ buffer run = length buffer ≡ 65536

@@ -5,7 +5,7 @@ use native.Mathlib.Omega.{arith}
 use lib.ListN.{length}
 use borrow.Author.Needs.{needs}
 use Rattle.io.proofs.Counting.{front}
-use Rattle.run.specs.Whole.{course}
+use Rattle.course.specs.Whole.{course}
 use Rattle.run.proofs.Callers.{used-within, fewer-left}
 use Rattle.cases.proofs.comparing.lines_agree.Statement.{statement}
 use Rattle.cases.proofs.comparing.lines_agree.Tie as tie
@@ -13,7 +13,7 @@ use Rattle.cases.proofs.comparing.lines_agree.Reads as reads
 use Rattle.cases.proofs.comparing.lines_agree.Lts as lts
 use Rattle.check.proofs.same.Reads as same-reads
 use Rattle.io.proofs.buffer.Reads as buffer-reads
-use Rattle.run.proofs.Run.fill.Reads as fill-reads
+use Rattle.run.proofs.fill.Reads as fill-reads
 
 abbrev Inv-loop : tie.InvT-loop
 Inv-loop schedule expected buffer₀ run₀ place₀ buffer run place = (length buffer ≡ 4096) × (place ≤ length expected)

@@ -1,5 +1,5 @@
 -- `current::action_letter` meets its contract. On each way to a return, the tests and calls on the way choose the case of the definition.
-use Rattle.run.specs.Wording.{actionLetter}
+use Rattle.course.specs.Wording.{actionLetter}
 use borrow.Author.Needs.{needs}
 use Rattle.run.proofs.current.action_letter.Statement.{statement}
 use Rattle.run.proofs.current.action_letter.Tie as tie

@@ -1,5 +1,5 @@
 -- `current::end_letter` meets its contract. On each way to a return, the tests and calls on the way choose the case of the definition.
-use Rattle.run.specs.Wording.{endLetter}
+use Rattle.course.specs.Wording.{endLetter}
 use borrow.Author.Needs.{needs}
 use Rattle.run.proofs.current.end_letter.Statement.{statement}
 use Rattle.run.proofs.current.end_letter.Tie as tie

@@ -1,0 +1,4 @@
+pub mod Standing
+pub mod Wording
+pub mod Whole
+pub mod Ready

@@ -1,0 +1,74 @@
+// A run of a night file where it stands, by value, and moved on to its next line.
+ghost use mathlib.Core.Path.{_≡_};
+ghost use Rattle.course.specs.Standing.{beginning};
+use plan::NODES;
+use ring::Happening;
+use ring::State;
+use tally::Tally;
+use turns::Event;
+
+mod beginning;
+mod onward;
+
+// What the steps so far have reached: the ring's state, what is counted, and how many steps were done.
+pub struct Reached {
+    pub state: State,
+    pub tally: Tally,
+    pub steps: u64,
+}
+
+// What a run is at: its items; its end, after all steps or cut at the ceiling; or a refused file with its number.
+pub enum Phase {
+    Items,
+    Ended,
+    Cut,
+    Refused(u8),
+}
+
+// A run under way: what it has reached, the place in the schedule, the steps left of the item before that place, the events of
+// the last step, the place of the next node to tell of (at the end: the next lock), what it is at, and whether all is said.
+pub struct Run {
+    pub reached: Reached,
+    pub at: usize,
+    pub left: u16,
+    pub events: [Happening; NODES],
+    pub next: u8,
+    pub phase: Phase,
+    pub over: bool,
+}
+
+// A line: steps done, letter, two numbers.
+pub struct Line {
+    pub steps: u64,
+    pub letter: u8,
+    pub first: u64,
+    pub second: u64,
+}
+
+// The run of a file, accepted or refused, before its first line.
+pub fn begin(file: &[u8]) -> Run
+    ensures { λ r. ⌜ r ≡ beginning (now (file .entry)) ⌝ }
+{
+    let number = nightfile::file_number(nightfile::test_file(file));
+    let plan = nightfile::read_plan(nightfile::plan_part(file));
+    let started = State::start(plan);
+    let state = started.state;
+    let tally = tally::empty_tally();
+    let events = [Happening {
+        event: Event::Nothing,
+    }; NODES];
+    let phase = beginning::first_phase(number);
+    Run {
+        reached: Reached {
+            state: state,
+            tally: tally,
+            steps: 0,
+        },
+        at: 0,
+        left: 0,
+        events: events,
+        next: 0,
+        phase: phase,
+        over: false,
+    }
+}
