@@ -1,13 +1,19 @@
--- 01, "Junction outside a local tour" and "Junction in a local tour": what each of their sentences does.
+-- 01, "Junction outside a local tour" and "Junction in a local tour": which of their sentences applies to a junction
+-- (Rules, of crate tours), and what each does.
 use Prim.Native.Nat.{ℕ}
-use mathlib.Core.Bool.{Bool, true, false}
+use mathlib.Core.Bool.{Bool, true, false, cond}
 use Rattle.words.specs.Words.{withLock, withoutLock}
 use Rattle.cars.specs.declared.Car.{Car}
 use Rattle.cars.specs.declared.Car.the-variants.{Idle, Token, Null, Reqp, Failp, Dov, Gotp, Didv}
+use Rattle.tours.specs.declared.JunctionRule.{JunctionRule}
+use Rattle.tours.specs.declared.JunctionRule.the-variants.{GoesOn, FailsReqp, Begins, Drops, TokenOut, CarOut, SetsBit, ClearsBit, Ends}
+use Rattle.tours.specs.Rules.{outside, inTour}
 use Rattle.junction.specs.declared.Junction.{Junction}
-use Rattle.junction.specs.declared.JunctionRule.{JunctionRule}
-use Rattle.junction.specs.declared.JunctionRule.the-variants.{GoesOn, FailsReqp, Begins, Drops, TokenOut, CarOut, SetsBit, ClearsBit, Ends}
-use Rattle.junction.specs.Rules.{junctionRule}
+
+-- by the subring's nodes, whether one of them wants a train, the arrival on the main side and the car out of the subring
+unfoldable pub junctionRule : ℕ → ℕ → Bool → Car → Car → Junction → JunctionRule
+junctionRule low high wants arrival out junction =
+    cond (junction .tour) (inTour (junction .train) low high out) (outside (junction .word) wants arrival)
 
 -- "the arrival as it came goes to the subring as shadow, idle standing for a token"
 unfoldable pub shadow : Car → Car

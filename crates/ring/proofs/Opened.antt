@@ -16,9 +16,9 @@ use Rattle.turns.specs.Turn.{flagAfter, becomes, grantCar, apply, eventOf, turn
 use Rattle.zeronode.specs.Rules.{emptySlot, onToken, onHead, zeroRule, keeps}
 use Rattle.zeronode.specs.Sound.{placeNames, zeroSound}
 use Rattle.zeronode.specs.Turn.{shifted, headOff, sends, appended, arrives, zeroTurn, countLeft, overflows}
-use Rattle.junction.specs.Rules.{within, outside, ifTrain, onGotp, onDidv, inTour, junctionRule}
+use Rattle.tours.specs.Rules.{within, outside, ifTrain, onGotp, onDidv, inTour}
 use Rattle.junction.specs.Sound.{junctionSound}
-use Rattle.junction.specs.Turn.{shadow, joins, junctionApply, junctionTurn}
+use Rattle.junction.specs.Turn.{junctionRule, shadow, joins, junctionApply, junctionTurn}
 use Rattle.ring.specs.Actions.{actionNumber, actedState, handedBack, actingSound, acting}
 use Rattle.ring.specs.Sound.{zeroPasses, nodePasses, junctionPasses, sound}
 use Rattle.ring.specs.State.{restNode, restJunction, startOf, smallPlan, startState, nodeOf}

@@ -27,9 +27,9 @@ use Rattle.turns.specs.Turn.{eventLetter, eventLock, turn}
 use Rattle.zeronode.specs.Rules.{keeps, zeroRule}
 use Rattle.zeronode.specs.Sound.{zeroSound}
 use Rattle.zeronode.specs.Turn.{zeroTurn, overflows}
-use Rattle.junction.specs.Rules.{within, junctionRule}
+use Rattle.tours.specs.Rules.{within, outside, inTour}
 use Rattle.junction.specs.Sound.{junctionSound}
-use Rattle.junction.specs.Turn.{junctionTurn}
+use Rattle.junction.specs.Turn.{junctionRule, junctionTurn}
 use Rattle.ring.specs.Actions.{actionTold, acting, actingSound}
 use Rattle.ring.specs.Sound.{sound}
 use Rattle.ring.specs.State.{planAnswerNumber, startTold, starting}
@@ -129,10 +129,17 @@ overflows-settled node arrival = settled (overflows node arrival)
 pub zero-sound-settled : (rules nodes locks : ℕ) (node : ZeroNode) → Settled (λ r. r ≡ zeroSound rules nodes locks node)
 zero-sound-settled rules nodes locks node = settled (zeroSound rules nodes locks node)
 
--- junction
+-- tours
 pub within-settled : (low high node : ℕ) → Settled (λ r. r ≡ within low high node)
 within-settled low high node = settled (within low high node)
 
+pub outside-settled : (word : ℕ) (wants : Bool) (arrival : Car) → Settled (λ r. r ≡ outside word wants arrival)
+outside-settled word wants arrival = settled (outside word wants arrival)
+
+pub in-tour-settled : (train : Bool) (low high : ℕ) (out : Car) → Settled (λ r. r ≡ inTour train low high out)
+in-tour-settled train low high out = settled (inTour train low high out)
+
+-- junction
 pub junction-rule-settled : (low high : ℕ) (wants : Bool) (arrival out : Car) (junction : Junction) → Settled (λ r. r ≡ junctionRule low high wants arrival out junction)
 junction-rule-settled low high wants arrival out junction = settled (junctionRule low high wants arrival out junction)
 

@@ -15,10 +15,10 @@ use Rattle.cars.specs.declared.Car.{Car}
 use Rattle.cars.specs.declared.Car.the-variants.{Idle, Token, Null, Reqp, Failp, Dov, Gotp, Didv}
 use Rattle.cars.specs.Cars.{multiring, names, noticeNames, carNames}
 use Rattle.junction.specs.declared.Junction.{Junction}
-use Rattle.junction.specs.declared.JunctionRule.{JunctionRule}
-use Rattle.junction.specs.declared.JunctionRule.the-variants.{GoesOn, FailsReqp, Begins, Drops, TokenOut, CarOut, SetsBit, ClearsBit, Ends}
-use Rattle.junction.specs.Rules.{within, outside, ifTrain, onGotp, onDidv, inTour, junctionRule}
-use Rattle.junction.specs.Turn.{shadow, joins, junctionApply, junctionTurn}
+use Rattle.tours.specs.declared.JunctionRule.{JunctionRule}
+use Rattle.tours.specs.declared.JunctionRule.the-variants.{GoesOn, FailsReqp, Begins, Drops, TokenOut, CarOut, SetsBit, ClearsBit, Ends}
+use Rattle.tours.specs.Rules.{within, outside, ifTrain, onGotp, onDidv, inTour}
+use Rattle.junction.specs.Turn.{junctionRule, shadow, joins, junctionApply, junctionTurn}
 use Rattle.junction.specs.Sound.{junctionSound}
 use Rattle.zeronode.specs.declared.Slot.{Slot}
 use Rattle.zeronode.specs.declared.ZeroNode.{ZeroNode}

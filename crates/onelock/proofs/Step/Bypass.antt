@@ -12,9 +12,9 @@ use Rattle.usernode.specs.declared.Node.{Node}
 use Rattle.usernode.specs.declared.Activity.{Activity}
 use Rattle.usernode.specs.Node.{had}
 use Rattle.junction.specs.declared.Junction.{Junction}
-use Rattle.junction.specs.declared.JunctionRule.the-variants.{GoesOn, FailsReqp}
-use Rattle.junction.specs.Rules.{outside, inTour, junctionRule}
-use Rattle.junction.specs.Turn.{shadow, joins, junctionApply, junctionTurn}
+use Rattle.tours.specs.declared.JunctionRule.the-variants.{GoesOn, FailsReqp}
+use Rattle.tours.specs.Rules.{outside, inTour}
+use Rattle.junction.specs.Turn.{junctionRule, shadow, joins, junctionApply, junctionTurn}
 use Rattle.onelock.proofs.Train.Cells.{Cell, cell, gate, All, Gates, Bare, asks, request, noticed}
 use Rattle.onelock.proofs.Train.CellLaws.{all-right, all-both, all-join, all-bare, words-right, fold-far}
 use Rattle.onelock.proofs.Train.Invariant.{Ok, Inv}

@@ -10,9 +10,9 @@ use Rattle.cars.specs.declared.Notice.{Notice}
 use Rattle.cars.specs.declared.Car.{Car}
 use Rattle.cars.specs.declared.Car.the-variants.{Idle, Token, Null, Reqp, Failp, Dov, Gotp, Didv}
 use Rattle.junction.specs.declared.Junction.{Junction}
-use Rattle.junction.specs.declared.JunctionRule.the-variants.{CarOut, SetsBit, ClearsBit}
-use Rattle.junction.specs.Rules.{within, outside, ifTrain, onGotp, onDidv, inTour, junctionRule}
-use Rattle.junction.specs.Turn.{joins, junctionApply, junctionTurn}
+use Rattle.tours.specs.declared.JunctionRule.the-variants.{CarOut, SetsBit, ClearsBit}
+use Rattle.tours.specs.Rules.{within, outside, ifTrain, onGotp, onDidv, inTour}
+use Rattle.junction.specs.Turn.{junctionRule, joins, junctionApply, junctionTurn}
 use Rattle.onelock.proofs.Train.Cells.{bit}
 use Rattle.onelock.proofs.Line.Phases.{Phase, before, after, Kind, token, gap, car, kind, One, passed, last, alone, more, head, coming, shade, Come}
 use Rattle.onelock.proofs.Line.Phases.{come-after, come-inside}

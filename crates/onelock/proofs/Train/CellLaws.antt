@@ -14,7 +14,7 @@ use Rattle.cars.specs.declared.Car.the-variants.{Idle, Token, Null, Reqp, Failp
 use Rattle.usernode.specs.declared.Node.{Node}
 use Rattle.usernode.specs.declared.Activity.{Activity}
 use Rattle.usernode.specs.Node.{had}
-use Rattle.junction.specs.Rules.{within}
+use Rattle.tours.specs.Rules.{within}
 use Rattle.onelock.proofs.Tests.{by-value}
 use Rattle.onelock.proofs.Train.Cells.{Cell, cell, gate, All, Gates, Bare, Gateless, at, asks, request, noticed, mine, bit, fold}
 use Rattle.onelock.proofs.Train.Invariant.{NoDid, Some, Exact, Words}

@@ -14,7 +14,7 @@ use Rattle.usernode.specs.declared.Node.{Node}
 use Rattle.usernode.specs.declared.Activity.{Activity}
 use Rattle.usernode.specs.declared.Activity.the-variants.{Idle as Resting, ToSendReqp, WaitingReqp, ToSendDov, WaitingDov}
 use Rattle.usernode.specs.Node.{had}
-use Rattle.junction.specs.Rules.{within}
+use Rattle.tours.specs.Rules.{within}
 
 -- a car at its place, or a gate: the numbers lo and hi, and the word
 pub data Cell : Type 0 where

@@ -1,5 +1,5 @@
 -- `junction::Junction::rule` meets its contract. On each way to a return, the tests and calls on the way choose the case of the definition.
-use Rattle.junction.specs.Rules.{junctionRule}
+use Rattle.junction.specs.Turn.{junctionRule}
 use borrow.Author.Needs.{needs}
 use Rattle.junction.proofs.Junction.rule.Statement.{statement}
 use Rattle.junction.proofs.Junction.rule.Tie as tie

@@ -1,8 +1,8 @@
--- `junction::outside` meets its contract. On each way to a return, the tests and calls on the way choose the case of the definition.
-use Rattle.junction.specs.Rules.{outside}
+-- `tours::outside` meets its contract. On each way to a return, the tests and calls on the way choose the case of the definition.
+use Rattle.tours.specs.Rules.{outside}
 use borrow.Author.Needs.{needs}
-use Rattle.junction.proofs.outside.Statement.{statement}
-use Rattle.junction.proofs.outside.Tie as tie
+use Rattle.tours.proofs.outside.Statement.{statement}
+use Rattle.tours.proofs.outside.Tie as tie
 
 enum-told : tie.Need-enum-told
 enum-told c = search needs

@@ -1,8 +1,8 @@
--- `junction::within` meets its contract. On each way to a return, the tests and calls on the way choose the case of the definition.
-use Rattle.junction.specs.Rules.{within}
+-- `tours::within` meets its contract. On each way to a return, the tests and calls on the way choose the case of the definition.
+use Rattle.tours.specs.Rules.{within}
 use borrow.Author.Tests.{le-ltb, lt-ltb}
-use Rattle.junction.proofs.within.Statement.{statement}
-use Rattle.junction.proofs.within.Tie as tie
+use Rattle.tours.proofs.within.Statement.{statement}
+use Rattle.tours.proofs.within.Tie as tie
 
 returns : tie.Need-returns
 unfolding within

@@ -1,4 +1,4 @@
--- 01, "Junction outside a local tour" and "Junction in a local tour": which of their sentences applies. What each does is in Turn.
+-- 01, "Junction outside a local tour" and "Junction in a local tour": which of their sentences applies. What each does is in crate junction.
 use Prim.Native.Nat.{ℕ}
 use mathlib.Core.Bool.{Bool, cond, _&&_}
 use lib.Dec.{ltb, leb}
@@ -6,9 +6,8 @@ use Rattle.words.specs.Words.{has}
 use Rattle.cars.specs.declared.Notice.{Notice}
 use Rattle.cars.specs.declared.Car.{Car}
 use Rattle.cars.specs.declared.Car.the-variants.{Idle, Token, Null, Reqp, Failp, Dov, Gotp, Didv}
-use Rattle.junction.specs.declared.Junction.{Junction}
-use Rattle.junction.specs.declared.JunctionRule.{JunctionRule}
-use Rattle.junction.specs.declared.JunctionRule.the-variants.{GoesOn, FailsReqp, Begins, Drops, TokenOut, CarOut, SetsBit, ClearsBit, Ends}
+use Rattle.tours.specs.declared.JunctionRule.{JunctionRule}
+use Rattle.tours.specs.declared.JunctionRule.the-variants.{GoesOn, FailsReqp, Begins, Drops, TokenOut, CarOut, SetsBit, ClearsBit, Ends}
 
 -- "a node of this subring": the subring's nodes are numbered from low + 1 to high
 unfoldable pub within : ℕ → ℕ → ℕ → Bool
@@ -47,8 +46,3 @@ inTour train low high (Failp tag) = ifTrain train CarOut
 inTour train low high (Dov tag) = ifTrain train CarOut
 inTour train low high (Gotp notice) = ifTrain train (onGotp low high notice)
 inTour train low high (Didv notice) = ifTrain train (onDidv low high notice)
-
--- by the subring's nodes, whether one of them wants a train, the arrival on the main side and the car out of the subring
-unfoldable pub junctionRule : ℕ → ℕ → Bool → Car → Car → Junction → JunctionRule
-junctionRule low high wants arrival out junction =
-    cond (junction .tour) (inTour (junction .train) low high out) (outside (junction .word) wants arrival)

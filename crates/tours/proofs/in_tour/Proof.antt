@@ -1,8 +1,8 @@
--- `junction::in_tour` meets its contract. On each way to a return, the tests and calls on the way choose the case of the definition.
-use Rattle.junction.specs.Rules.{inTour}
+-- `tours::in_tour` meets its contract. On each way to a return, the tests and calls on the way choose the case of the definition.
+use Rattle.tours.specs.Rules.{inTour}
 use borrow.Author.Needs.{needs}
-use Rattle.junction.proofs.in_tour.Statement.{statement}
-use Rattle.junction.proofs.in_tour.Tie as tie
+use Rattle.tours.proofs.in_tour.Statement.{statement}
+use Rattle.tours.proofs.in_tour.Tie as tie
 
 enum-told : tie.Need-enum-told
 enum-told c = search needs
