@@ -2,21 +2,6 @@
 use plan::POSITIONS;
 use plan::Plan;
 
-fn text(bytes: &[u8]) {
-    io::write_all(1, bytes);
-}
-
-fn number(value: u64) {
-    io::print_decimal(1, value);
-}
-
-// A mark and a number behind it.
-fn marked(mark: u8, value: u8) {
-    let bytes = [mark];
-    text(&bytes);
-    number(value as u64);
-}
-
 // The plan's positions, as the paper writes them but for the last mark.
 fn positions(plan: Plan) {
     let positions = plan.positions as usize;
@@ -24,39 +9,36 @@ fn positions(plan: Plan) {
     let mut i = 0;
     while i < POSITIONS {
         if i < positions {
-            marked(mark, plan.values[i]);
+            let bytes = [mark];
+            io::write_all(1, &bytes);
+            io::print_decimal(1, plan.values[i] as u64);
             mark = b',';
         }
         i += 1;
     }
 }
 
-fn rules(rules: u8) {
-    if rules == 1 {
-        text(b"ring ");
-    } else {
-        text(b"multiring ");
-    }
-}
-
 fn tests(failed: u64) {
     if failed == 0 {
-        text(b"; all tests held\n");
+        io::write_all(1, b"; all tests held\n");
     } else {
-        text(b"; tests that failed: ");
-        number(failed);
-        text(b"\n");
+        io::write_all(1, b"; tests that failed: ");
+        io::print_decimal(1, failed);
+        io::write_all(1, b"\n");
     }
 }
 
 pub fn row(plan: Plan, states: u64, paper: u64, failed: u64) {
-    rules(plan.rules);
+    if plan.rules == 2 {
+        io::write_all(1, b"multi");
+    }
+    io::write_all(1, b"ring ");
     positions(plan);
-    text(b">, locks ");
-    number(plan.locks as u64);
-    text(b": states ");
-    number(states);
-    text(b", in the paper ");
-    number(paper);
+    io::write_all(1, b">, locks ");
+    io::print_decimal(1, plan.locks as u64);
+    io::write_all(1, b": states ");
+    io::print_decimal(1, states);
+    io::write_all(1, b", in the paper ");
+    io::print_decimal(1, paper);
     tests(failed);
 }

@@ -16,11 +16,20 @@ cast-positions c = search needs
 loop-holds : tie.Need-loop-holds Inv-loop μ-loop
 loop-holds c = search needs
 
-element-copy-out-marked : tie.Need-element-copy-out-marked Inv-loop μ-loop
-element-copy-out-marked c = search needs
+slice-aggregate-write-all : tie.Need-slice-aggregate-write-all Inv-loop μ-loop
+slice-aggregate-write-all c = search needs
 
-marked-requires : tie.Need-marked-requires Inv-loop μ-loop
-marked-requires c κs = search needs
+write-all-requires : tie.Need-write-all-requires Inv-loop μ-loop
+write-all-requires c κs = search needs
+
+element-copy-out-print-decimal : tie.Need-element-copy-out-print-decimal Inv-loop μ-loop
+element-copy-out-print-decimal c = search needs
+
+cast-print-decimal : tie.Need-cast-print-decimal Inv-loop μ-loop
+cast-print-decimal c = search needs
+
+print-decimal-requires : tie.Need-print-decimal-requires Inv-loop μ-loop
+print-decimal-requires c κs = search needs
 
 add-i : tie.Need-add-i Inv-loop μ-loop
 add-i c = search needs
@@ -42,8 +51,11 @@ positions-spec =
     μ-loop
     cast-positions
     loop-holds
-    element-copy-out-marked
-    marked-requires
+    slice-aggregate-write-all
+    write-all-requires
+    element-copy-out-print-decimal
+    cast-print-decimal
+    print-decimal-requires
     add-i
     loop-less
     loop-again
