@@ -1,3 +1,4 @@
+-- `words::all_below` meets its contract. On each way to a return, the tests and calls on the way choose the case of the definition.
 use mathlib.Core.Path.{sym}
 use borrow.Author.Tests.{lt-ltb}
 use native.Mathlib.Nat.{lt-of-lt-of-le}

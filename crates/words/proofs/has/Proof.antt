@@ -1,3 +1,4 @@
+-- `words::has` meets its contract. On each way to a return, the tests and calls on the way choose the case of the definition.
 use Rattle.words.proofs.Bits.{has-beyond}
 use Rattle.words.specs.Words.{has}
 use mathlib.Core.Path.{refl, sym}

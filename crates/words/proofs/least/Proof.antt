@@ -1,3 +1,4 @@
+-- `words::least` meets its contract. On each way to a return, the tests and calls on the way choose the case of the definition.
 use Rattle.words.specs.Words.{least}
 use lib.Count.{trailing-le}
 use native.Mathlib.Omega.{arith}
