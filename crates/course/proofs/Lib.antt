@@ -1,3 +1,4 @@
+mod Items
 pub mod Found
 pub mod Moves
 pub mod Told

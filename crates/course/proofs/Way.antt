@@ -6,9 +6,8 @@ use mathlib.Core.List.{List, []}
 use native.Mathlib.Omega.{arith}
 use lib.ListN.{length}
 use borrow.Author.Tests.{lt-ltb, le-ltb, eq-eqb}
-use Rattle.acts.specs.declared.Action.{Action}
 use Rattle.items.specs.declared.Item.{Item}
-use Rattle.items.specs.declared.Item.the-variants.{Steps, Act}
+use Rattle.items.specs.declared.Item.the-variants.{Steps}
 use Rattle.items.specs.declared.ItemAnswer.the-variants.{Found}
 use Rattle.items.specs.Items.{readAt}
 use Rattle.course.specs.declared.Run.{Run}
@@ -16,7 +15,7 @@ use Rattle.course.specs.declared.Phase.the-variants.{Items, Ended, Cut}
 use Rattle.course.specs.Standing.{nodesOf, oneStep, past, stepsItem, atEnd}
 use Rattle.course.specs.Wording.{eventHere, isEvent}
 use Rattle.course.specs.Whole.{itemsFrom, course, andOthers, stepsIn}
-use Rattle.course.specs.Ready.{answerHere, isAct, isAction, readyIn, ready}
+use Rattle.course.specs.Ready.{answerHere, isAction, readyIn, ready}
 use Rattle.course.proofs.Found.{found-moves, items-found}
 use Rattle.course.proofs.Moves.{AtItems, past-items, step-items, steps-items, step-nodes, nodes-most, on-quiet, on-step, on-steps, on-cut, on-end}
 
@@ -103,10 +102,10 @@ at-event ceiling schedule nodes start run w below e =
     let under : run .next < nodesOf run = omega (arith, w .count) in
     (w .same, simp (w .going .not-over, w .going .at-items, lt-ltb _ _ under, e))
 
-pub at-action : (ceiling : ℕ) (schedule : List ℕ) (nodes : ℕ) (start run : Run) (action : Action) (node lock : ℕ) → Way ceiling schedule nodes start run
-    → nodes ≤ run .next → run .left ≤ 0 → readAt schedule (run .at) .answer ≡ Found (Act action node lock) → Arrived ceiling schedule start run
-unfolding ready readyIn answerHere isAction isAct
-at-action ceiling schedule nodes start run action node lock w told left found =
+pub at-action : (ceiling : ℕ) (schedule : List ℕ) (nodes : ℕ) (start run : Run) → Way ceiling schedule nodes start run
+    → nodes ≤ run .next → run .left ≤ 0 → isAction (readAt schedule (run .at) .answer) ≡ true → Arrived ceiling schedule start run
+unfolding ready readyIn answerHere
+at-action ceiling schedule nodes start run w told left found =
     let all : nodesOf run ≤ run .next = omega (arith, w .count) in
     let none : run .left ≡ 0 = omega arith in
     (w .same, simp (w .going .not-over, w .going .at-items, le-ltb _ _ all, eq-eqb _ _ none, found))

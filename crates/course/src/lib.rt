@@ -7,6 +7,7 @@ use ring::State;
 use tally::Tally;
 use turns::Event;
 
+mod ahead;
 mod beginning;
 mod onward;
 

@@ -10,9 +10,7 @@ ghost use Rattle.course.specs.Ready.{ready};
 use crate::Phase;
 use crate::Reached;
 use crate::Run;
-use items::Cursor;
-use items::Item;
-use items::ItemAnswer;
+use crate::ahead;
 use turns::Event;
 
 // Whether something happened.
@@ -98,20 +96,15 @@ impl Run {
                 }
                 run = run.one_step();
             } else {
-                let cursor = Cursor { at: run.at };
-                let reading = cursor.read(schedule);
-                let answer = reading.answer;
-                match answer {
-                    ItemAnswer::NoMore => return run.at_end(Phase::Ended),
-                    ItemAnswer::Found(item) => match item {
-                        Item::Steps(steps) => {
-                            run.left = steps;
-                            run.at = reading.at;
-                        }
-                        Item::Act { action, node, lock } => return run,
-                    },
-                    ItemAnswer::LeftOver => return run.at_end(Phase::Ended),
-                    ItemAnswer::Bad => return run.at_end(Phase::Ended),
+                let found = ahead::look_ahead(schedule, run.at);
+                if found.action {
+                    return run;
+                }
+                if found.steps {
+                    run.left = found.count;
+                    run.at = found.next;
+                } else {
+                    return run.at_end(Phase::Ended);
                 }
             }
         }

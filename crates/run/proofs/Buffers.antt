@@ -20,7 +20,7 @@ use Rattle.course.specs.declared.Phase.the-variants.{Items, Ended, Cut, Refused
 use Rattle.course.specs.Standing.{nodesOf, oneStep, past, stepsItem, atEnd}
 use Rattle.course.specs.Wording.{text, eventHere, isEvent}
 use Rattle.course.specs.Whole.{Course, says, silence, course, andOthers}
-use Rattle.course.specs.Ready.{readyIn, ready}
+use Rattle.course.specs.Ready.{isAct, isAction, readyIn, ready}
 use Rattle.run.specs.Current.{sayingNow}
 use Rattle.run.specs.Filling.{texts, fitting, stopsAt, written, filling, inBuffers, afterBuffers}
 use Rattle.run.proofs.Ready.{ready-goes, course-over}
@@ -54,13 +54,13 @@ at-none ceiling schedule nodes start run w told left none =
 
 at-item : (ceiling : ℕ) (schedule : List ℕ) (nodes : ℕ) (start run : Run) (answer : ItemAnswer) → Way ceiling schedule nodes start run → Again ceiling schedule nodes start run
     → nodes ≤ run .next → run .left ≤ 0 → readAt schedule (run .at) .answer ≡ answer → Next ceiling schedule start
-unfolding andOthers
+unfolding andOthers isAction isAct
 at-item ceiling schedule nodes start run NoMore w again told left e =
     at-none ceiling schedule nodes start run w told left (λ others. ap (λ (a : ItemAnswer). andOthers a others) e)
 at-item ceiling schedule nodes start run (Found (Steps n)) w again told left e =
     again (stepsItem n run) (way-steps ceiling schedule nodes start run n w told left e) (steps-nearer schedule nodes run n left e)
 at-item ceiling schedule nodes start run (Found (Act action node lock)) w again told left e =
-    let a = at-action ceiling schedule nodes start run action node lock w told left e in next run (a .0) (a .1)
+    let a = at-action ceiling schedule nodes start run w told left (ap isAction e) in next run (a .0) (a .1)
 at-item ceiling schedule nodes start run LeftOver w again told left e =
     at-none ceiling schedule nodes start run w told left (λ others. ap (λ (a : ItemAnswer). andOthers a others) e)
 at-item ceiling schedule nodes start run Bad w again told left e =
