@@ -1,6 +1,7 @@
 -- `ring::State::walk` meets its contract. The outer loop's invariant: the walk so far is the definition's up to this position. The inner
 -- loop's: inside a subring it is the definition's up to this node of the subring, and so is what is known of who wants a train.
 use Prim.Native.Nat.{_-_}
+use native.Mathlib.Omega.{arith}
 use borrow.Author.Needs.{needs}
 use mathlib.Core.Path.{ap, _∙_}
 use mathlib.Core.Bool.{Bool, _||_}
@@ -32,28 +33,28 @@ unfolding setOut quiet
 loop-holds c = around-start (c .before .before .before .before .args .t1) (c .before .before .before .before .pre)
 
 cast-value : tie.Need-cast-value Inv-loop2 μ-loop2 Inv-loop μ-loop
-cast-value c = search needs
+cast-value c = omega (arith, c .before .loop .inv .most, c .loop-test .taken)
 
 element-copy-out-value : tie.Need-element-copy-out-value Inv-loop2 μ-loop2 Inv-loop μ-loop
-element-copy-out-value c = search needs
+element-copy-out-value c = omega (arith, c .before .loop .inv .most, c .loop-test .taken)
 
 cast-node : tie.Need-cast-node Inv-loop2 μ-loop2 Inv-loop μ-loop
-cast-node c = search needs
+cast-node c = omega (arith, c .before .before .before .loop .inv .passed-most, c .before .before .before .loop .inv .most, c .before .before .loop-test .taken)
 
 mul-node : tie.Need-mul-node Inv-loop2 μ-loop2 Inv-loop μ-loop
-mul-node c = search needs
+mul-node c = omega (arith, c .before .before .before .loop .inv .passed-most, c .before .before .before .loop .inv .most, c .before .before .loop-test .taken)
 
 element-copy-out-node : tie.Need-element-copy-out-node Inv-loop2 μ-loop2 Inv-loop μ-loop
-element-copy-out-node c = search needs
+element-copy-out-node c = omega (arith, c .before .before .before .loop .inv .passed-most, c .before .before .before .loop .inv .most, c .before .before .loop-test .taken)
 
 add-turn-of : tie.Need-add-turn-of Inv-loop2 μ-loop2 Inv-loop μ-loop
-add-turn-of c = search needs
+add-turn-of c = omega (arith, c .before .before .before .before .loop .inv .passed-most, c .before .before .before .before .loop .inv .most, c .before .before .before .loop-test .taken)
 
 turn-of-requires : tie.Need-turn-of-requires Inv-loop2 μ-loop2 Inv-loop μ-loop
 turn-of-requires c κs = search needs
 
 add-astray : tie.Need-add-astray Inv-loop2 μ-loop2 Inv-loop μ-loop
-add-astray c = search needs
+add-astray c = omega (arith, c .before .before .before .before .before .loop .inv .passed-most, c .before .before .before .before .before .loop .inv .most, c .before .before .before .before .loop-test .taken)
 
 astray-requires : tie.Need-astray-requires Inv-loop2 μ-loop2 Inv-loop μ-loop
 astray-requires c κs = search needs
@@ -62,31 +63,31 @@ either-requires : tie.Need-either-requires Inv-loop2 μ-loop2 Inv-loop μ-loop
 either-requires c κs = search needs
 
 cast-nodes : tie.Need-cast-nodes Inv-loop2 μ-loop2 Inv-loop μ-loop
-cast-nodes c = search needs
+cast-nodes c = omega (arith, c .before .before .before .before .before .before .before .before .loop .inv .passed-most, c .before .before .before .before .before .before .before .before .loop .inv .most, c .before .before .before .before .before .before .before .loop-test .taken)
 
 mul-nodes : tie.Need-mul-nodes Inv-loop2 μ-loop2 Inv-loop μ-loop
-mul-nodes c = search needs
+mul-nodes c = omega (arith, c .before .before .before .before .before .before .before .before .loop .inv .passed-most, c .before .before .before .before .before .before .before .before .loop .inv .most, c .before .before .before .before .before .before .before .loop-test .taken)
 
 array-set-from-nodes : tie.Need-array-set-from-nodes Inv-loop2 μ-loop2 Inv-loop μ-loop
-array-set-from-nodes c = search needs
+array-set-from-nodes c = omega (arith, c .before .before .before .before .before .before .before .before .loop .inv .passed-most, c .before .before .before .before .before .before .before .before .loop .inv .most, c .before .before .before .before .before .before .before .loop-test .taken)
 
 cast-events : tie.Need-cast-events Inv-loop2 μ-loop2 Inv-loop μ-loop
-cast-events c = search needs
+cast-events c = omega (arith, c .before .before .before .before .before .before .before .before .loop .inv .passed-most, c .before .before .before .before .before .before .before .before .loop .inv .most, c .before .before .before .before .before .before .before .loop-test .taken)
 
 mul-events : tie.Need-mul-events Inv-loop2 μ-loop2 Inv-loop μ-loop
-mul-events c = search needs
+mul-events c = omega (arith, c .before .before .before .before .before .before .before .before .loop .inv .passed-most, c .before .before .before .before .before .before .before .before .loop .inv .most, c .before .before .before .before .before .before .before .loop-test .taken)
 
 array-set-from-events : tie.Need-array-set-from-events Inv-loop2 μ-loop2 Inv-loop μ-loop
-array-set-from-events c = search needs
+array-set-from-events c = omega (arith, c .before .before .before .before .before .before .before .before .loop .inv .passed-most, c .before .before .before .before .before .before .before .before .loop .inv .most, c .before .before .before .before .before .before .before .loop-test .taken)
 
 add-passed : tie.Need-add-passed Inv-loop2 μ-loop2 Inv-loop μ-loop
-add-passed c = search needs
+add-passed c = omega (arith, c .before .before .before .before .before .before .before .before .loop .inv .passed-most, c .before .before .before .before .before .before .before .before .loop .inv .most, c .before .before .before .before .before .before .before .loop-test .taken)
 
 add-place : tie.Need-add-place Inv-loop2 μ-loop2 Inv-loop μ-loop
-add-place c = search needs
+add-place c = omega (arith, c .before .before .before .before .before .before .before .before .loop .inv .most, c .before .before .before .before .before .before .before .loop-test .taken)
 
 loop-less : tie.Need-loop-less Inv-loop2 μ-loop2 Inv-loop μ-loop
-loop-less c = search needs
+loop-less c = omega (arith, c .before .before .before .before .before .before .before .loop-test .taken)
 
 loop-again : tie.Need-loop-again Inv-loop2 μ-loop2 Inv-loop μ-loop
 unfolding valueAt turnHere nodeHere restNode
@@ -95,35 +96,35 @@ loop-again c =
     (node-turned _ _ _ _ _ (c .before .before .before .turn-of .ensures) (c .before .before .astray .ensures) (c .before .either .ensures))
 
 cast-junction : tie.Need-cast-junction Inv-loop2 μ-loop2 Inv-loop μ-loop
-cast-junction c = search needs
+cast-junction c = omega (arith, c .before .before .before .loop .inv .turned-most, c .before .before .before .loop .inv .most, c .before .before .loop-test .taken)
 
 mul-junction : tie.Need-mul-junction Inv-loop2 μ-loop2 Inv-loop μ-loop
-mul-junction c = search needs
+mul-junction c = omega (arith, c .before .before .before .loop .inv .turned-most, c .before .before .before .loop .inv .most, c .before .before .loop-test .taken)
 
 element-copy-out-junction : tie.Need-element-copy-out-junction Inv-loop2 μ-loop2 Inv-loop μ-loop
-element-copy-out-junction c = search needs
+element-copy-out-junction c = omega (arith, c .before .before .before .loop .inv .turned-most, c .before .before .before .loop .inv .most, c .before .before .loop-test .taken)
 
 loop2-holds : tie.Need-loop2-holds Inv-loop2 μ-loop2 Inv-loop μ-loop
 unfolding intoSubring junctionHere restJunction valueAt
 loop2-holds c = inside-start _ _ _ (c .before .before .before .before .loop .inv) (c .before .before .before .loop-test .taken) (c .before .before .before .before .before .before .before .before .before .pre)
 
 cast-node-2 : tie.Need-cast-node-2 Inv-loop2 μ-loop2 Inv-loop μ-loop
-cast-node-2 c = search needs
+cast-node-2 c = omega (arith, c .before .loop2 .inv .passed, c .before .loop2 .inv .room, c .loop2-test .taken)
 
 mul-node-2 : tie.Need-mul-node-2 Inv-loop2 μ-loop2 Inv-loop μ-loop
-mul-node-2 c = search needs
+mul-node-2 c = omega (arith, c .before .loop2 .inv .passed, c .before .loop2 .inv .room, c .loop2-test .taken)
 
 element-copy-out-node-2 : tie.Need-element-copy-out-node-2 Inv-loop2 μ-loop2 Inv-loop μ-loop
-element-copy-out-node-2 c = search needs
+element-copy-out-node-2 c = omega (arith, c .before .loop2 .inv .passed, c .before .loop2 .inv .room, c .loop2-test .taken)
 
 add-turn-of-2 : tie.Need-add-turn-of-2 Inv-loop2 μ-loop2 Inv-loop μ-loop
-add-turn-of-2 c = search needs
+add-turn-of-2 c = omega (arith, c .before .before .loop2 .inv .passed, c .before .before .loop2 .inv .room, c .before .loop2-test .taken)
 
 turn-of-requires-2 : tie.Need-turn-of-requires-2 Inv-loop2 μ-loop2 Inv-loop μ-loop
 turn-of-requires-2 c κs = search needs
 
 add-astray-2 : tie.Need-add-astray-2 Inv-loop2 μ-loop2 Inv-loop μ-loop
-add-astray-2 c = search needs
+add-astray-2 c = omega (arith, c .before .before .before .loop2 .inv .passed, c .before .before .before .loop2 .inv .room, c .before .before .loop2-test .taken)
 
 astray-requires-2 : tie.Need-astray-requires-2 Inv-loop2 μ-loop2 Inv-loop μ-loop
 astray-requires-2 c κs = search needs
@@ -138,31 +139,31 @@ either-requires-3 : tie.Need-either-requires-3 Inv-loop2 μ-loop2 Inv-loop μ-lo
 either-requires-3 c κs = search needs
 
 cast-nodes-2 : tie.Need-cast-nodes-2 Inv-loop2 μ-loop2 Inv-loop μ-loop
-cast-nodes-2 c = search needs
+cast-nodes-2 c = omega (arith, c .before .before .before .before .before .before .before .before .loop2 .inv .passed, c .before .before .before .before .before .before .before .before .loop2 .inv .room, c .before .before .before .before .before .before .before .loop2-test .taken)
 
 mul-nodes-2 : tie.Need-mul-nodes-2 Inv-loop2 μ-loop2 Inv-loop μ-loop
-mul-nodes-2 c = search needs
+mul-nodes-2 c = omega (arith, c .before .before .before .before .before .before .before .before .loop2 .inv .passed, c .before .before .before .before .before .before .before .before .loop2 .inv .room, c .before .before .before .before .before .before .before .loop2-test .taken)
 
 array-set-from-nodes-2 : tie.Need-array-set-from-nodes-2 Inv-loop2 μ-loop2 Inv-loop μ-loop
-array-set-from-nodes-2 c = search needs
+array-set-from-nodes-2 c = omega (arith, c .before .before .before .before .before .before .before .before .loop2 .inv .passed, c .before .before .before .before .before .before .before .before .loop2 .inv .room, c .before .before .before .before .before .before .before .loop2-test .taken)
 
 cast-events-2 : tie.Need-cast-events-2 Inv-loop2 μ-loop2 Inv-loop μ-loop
-cast-events-2 c = search needs
+cast-events-2 c = omega (arith, c .before .before .before .before .before .before .before .before .loop2 .inv .passed, c .before .before .before .before .before .before .before .before .loop2 .inv .room, c .before .before .before .before .before .before .before .loop2-test .taken)
 
 mul-events-2 : tie.Need-mul-events-2 Inv-loop2 μ-loop2 Inv-loop μ-loop
-mul-events-2 c = search needs
+mul-events-2 c = omega (arith, c .before .before .before .before .before .before .before .before .loop2 .inv .passed, c .before .before .before .before .before .before .before .before .loop2 .inv .room, c .before .before .before .before .before .before .before .loop2-test .taken)
 
 array-set-from-events-2 : tie.Need-array-set-from-events-2 Inv-loop2 μ-loop2 Inv-loop μ-loop
-array-set-from-events-2 c = search needs
+array-set-from-events-2 c = omega (arith, c .before .before .before .before .before .before .before .before .loop2 .inv .passed, c .before .before .before .before .before .before .before .before .loop2 .inv .room, c .before .before .before .before .before .before .before .loop2-test .taken)
 
 add-passed-2 : tie.Need-add-passed-2 Inv-loop2 μ-loop2 Inv-loop μ-loop
-add-passed-2 c = search needs
+add-passed-2 c = omega (arith, c .before .before .before .before .before .before .before .before .loop2 .inv .passed, c .before .before .before .before .before .before .before .before .loop2 .inv .room, c .before .before .before .before .before .before .before .loop2-test .taken)
 
 add-k : tie.Need-add-k Inv-loop2 μ-loop2 Inv-loop μ-loop
-add-k c = search needs
+add-k c = omega (arith, c .before .before .before .before .before .before .before .before .loop2 .inv .size-most, c .before .before .before .before .before .before .before .loop2-test .taken)
 
 loop2-less : tie.Need-loop2-less Inv-loop2 μ-loop2 Inv-loop μ-loop
-loop2-less c = search needs
+loop2-less c = omega (arith, c .before .before .before .before .before .before .before .loop2-test .taken)
 
 loop2-again : tie.Need-loop2-again Inv-loop2 μ-loop2 Inv-loop μ-loop
 unfolding turnHere nodeHere restNode
@@ -174,22 +175,22 @@ turn-requires : tie.Need-turn-requires Inv-loop2 μ-loop2 Inv-loop μ-loop
 turn-requires c κs = search needs
 
 cast-junctions : tie.Need-cast-junctions Inv-loop2 μ-loop2 Inv-loop μ-loop
-cast-junctions c = search needs
+cast-junctions c = omega (arith, c .before .before .before .before .before .before .before .loop .inv .turned-most, c .before .before .before .before .before .before .before .loop .inv .most, c .before .before .before .before .before .before .loop-test .taken)
 
 mul-junctions : tie.Need-mul-junctions Inv-loop2 μ-loop2 Inv-loop μ-loop
-mul-junctions c = search needs
+mul-junctions c = omega (arith, c .before .before .before .before .before .before .before .loop .inv .turned-most, c .before .before .before .before .before .before .before .loop .inv .most, c .before .before .before .before .before .before .loop-test .taken)
 
 array-set-from-junctions : tie.Need-array-set-from-junctions Inv-loop2 μ-loop2 Inv-loop μ-loop
-array-set-from-junctions c = search needs
+array-set-from-junctions c = omega (arith, c .before .before .before .before .before .before .before .loop .inv .turned-most, c .before .before .before .before .before .before .before .loop .inv .most, c .before .before .before .before .before .before .loop-test .taken)
 
 add-turned : tie.Need-add-turned Inv-loop2 μ-loop2 Inv-loop μ-loop
-add-turned c = search needs
+add-turned c = omega (arith, c .before .before .before .before .before .before .before .loop .inv .turned-most, c .before .before .before .before .before .before .before .loop .inv .most, c .before .before .before .before .before .before .loop-test .taken)
 
 add-place-2 : tie.Need-add-place-2 Inv-loop2 μ-loop2 Inv-loop μ-loop
-add-place-2 c = search needs
+add-place-2 c = omega (arith, c .before .before .before .before .before .before .before .loop .inv .most, c .before .before .before .before .before .before .loop-test .taken)
 
 loop-less-2 : tie.Need-loop-less-2 Inv-loop2 μ-loop2 Inv-loop μ-loop
-loop-less-2 c = search needs
+loop-less-2 c = omega (arith, c .before .before .before .before .before .before .loop-test .taken)
 
 loop-again-2 : tie.Need-loop-again-2 Inv-loop2 μ-loop2 Inv-loop μ-loop
 unfolding valueAt intoSubring junctionHere restJunction
