@@ -1,22 +1,17 @@
 // Asking the model, and saying what it answers by its number in 01 (0: done); what it hands back is the state from then on.
 use crate::names;
+use crate::reading::Line;
+use crate::reading::cell;
 use crate::say;
 use crate::terms;
-use ring::Acted;
 use ring::State;
 
 // The start state of a plan.
-pub fn start(state: State, line: &[u8], at: usize) -> State {
-    let read = terms::plan_of(line, at);
-    let plan = read.plan;
-    if read.whole {
-        let started = State::start(plan);
-        let answer = started.answer;
-        let next = started.state;
-        say::answer(ring::plan_number(answer));
-        return next;
-    }
-    state
+pub fn start(line: Line) -> State {
+    let started = State::start(terms::plan(line));
+    let answer = started.answer;
+    say::answer(ring::plan_number(answer));
+    started.state
 }
 
 // One step, with its events.
@@ -24,28 +19,20 @@ pub fn step(state: State) -> State {
     let stepped = state.step();
     let answer = stepped.answer;
     let events = stepped.events;
-    let next = stepped.state;
     say::step(ring::step_number(answer), events);
-    next
+    stepped.state
 }
 
-// Take or force, or release for any other name.
-fn acting(state: State, code: u64, node: u8, lock: u8) -> Acted {
-    match code {
+// Take, release or force.
+pub fn act(state: State, line: Line) -> State {
+    let node = terms::small(line, 1);
+    let lock = terms::small(line, 2);
+    let acted = match cell(line, 0) {
         names::TAKE => state.take(node, lock),
-        names::FORCE => state.force(node, lock),
-        _ => state.release(node, lock),
-    }
-}
-
-pub fn act(state: State, code: u64, line: &[u8], at: usize) -> State {
-    let deed = terms::deed_of(line, at);
-    if deed.whole {
-        let acted = acting(state, code, deed.node, deed.lock);
-        let answer = acted.answer;
-        let next = acted.state;
-        say::answer(acts::answer_number(answer));
-        return next;
-    }
-    state
+        names::RELEASE => state.release(node, lock),
+        _ => state.force(node, lock),
+    };
+    let answer = acted.answer;
+    say::answer(acts::answer_number(answer));
+    acted.state
 }

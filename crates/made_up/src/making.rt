@@ -1,5 +1,7 @@
-// Making states up: a state with one thing changed, as the rest of a line from a place on says. Where the line is not understood
-// nothing changes.
+// Making states up: the state with the one thing changed that a line gives, in use or not; all else stays.
+use crate::names;
+use crate::reading::Line;
+use crate::reading::cell;
 use crate::terms;
 use plan::JUNCTIONS;
 use plan::NODES;
@@ -8,69 +10,47 @@ use zeronode::PLACES;
 use zeronode::Slot;
 use zeronode::ZeroNode;
 
-// The plan, in range or not; all else stays.
-pub fn with_plan(state: State, line: &[u8], at: usize) -> State {
-    let read = terms::plan_of(line, at);
-    let plan = read.plan;
-    let mut next = state;
-    if read.whole {
-        next.plan = plan;
-    }
-    next
-}
-
-// The zero node but for its queue.
-pub fn with_zero(state: State, line: &[u8], at: usize) -> State {
-    let read = terms::zero_of(line, at);
-    let car = read.car;
-    let old = state.zeroth;
-    let queue = old.queue;
-    let mut next = state;
-    if read.whole {
-        let zeroth = ZeroNode {
+// The zero node but for its queue, or a car of its queue; the head is at place 0.
+fn with_zero(zeroth: ZeroNode, line: Line) -> ZeroNode {
+    let mut queue = zeroth.queue;
+    let place = terms::small(line, 1) as usize;
+    if cell(line, 0) == names::ZERO {
+        let car = terms::car(line, 1);
+        return ZeroNode {
             car: car,
             queue: queue,
-            count: read.count,
+            count: terms::small(line, 4),
         };
-        next.zeroth = zeroth;
     }
-    next
+    if place < PLACES {
+        let queued = terms::car(line, 2);
+        queue[place] = Slot { car: queued };
+    }
+    let sent = zeroth.car;
+    ZeroNode {
+        car: sent,
+        queue: queue,
+        count: zeroth.count,
+    }
 }
 
-// A car at a place of the queue, in use or not; the head is at place 0.
-pub fn with_queue(state: State, line: &[u8], at: usize) -> State {
-    let read = terms::car_at(line, at);
-    let index = read.index;
-    let car = read.car;
-    let mut zeroth = state.zeroth;
+// For a line that gives a plan, a node, a junction, the zero node or a place of its queue.
+pub fn made(state: State, line: Line) -> State {
     let mut next = state;
-    if index < PLACES {
-        zeroth.queue[index] = Slot { car: car };
-        next.zeroth = zeroth;
-    }
-    next
-}
-
-// The node of a number, in use or not.
-pub fn with_node(state: State, line: &[u8], at: usize) -> State {
-    let read = terms::node_at(line, at);
-    let index = read.index;
-    let node = read.node;
-    let mut next = state;
-    if index < NODES {
-        next.nodes[index] = node;
-    }
-    next
-}
-
-// The junction of a number, in use or not.
-pub fn with_junction(state: State, line: &[u8], at: usize) -> State {
-    let read = terms::junction_at(line, at);
-    let index = read.index;
-    let junction = read.junction;
-    let mut next = state;
-    if index < JUNCTIONS {
-        next.junctions[index] = junction;
+    let place = terms::place(line, 1);
+    match cell(line, 0) {
+        names::PLAN => next.plan = terms::plan(line),
+        names::NODE => {
+            if place < NODES {
+                next.nodes[place] = terms::node(line);
+            }
+        }
+        names::JUNCTION => {
+            if place < JUNCTIONS {
+                next.junctions[place] = terms::junction(line);
+            }
+        }
+        _ => next.zeroth = with_zero(next.zeroth, line),
     }
     next
 }

@@ -1,219 +1,129 @@
-// Reading a line: names and decimal numbers with one space between them. A reader starts at a place, where a space and the word
-// stand, and answers the place behind the word; LOST where it does not understand the word. From LOST nothing is understood, so
-// that a whole line was understood where the last place is the line's end.
+// Reading a line. Its words stand with one space between them, and each is put into a cell as one number: a name as names.rt has
+// it, a decimal number as it is. Where a car or an activity has no lock or source, the cell for it is 0, so that each thing of a
+// command has its cell whatever stands before it. forms.rt says which words a line may have.
+use crate::forms;
+use crate::names;
 
-use crate::say;
+pub const CELLS: usize = 20;
 
-pub const LOST: usize = 18446744073709551615;
-
-// An index that no place has.
-pub const NOWHERE: usize = 255;
-
-// A name as in names.rt; 0 for a word that is too long for one.
-pub struct Name {
-    pub code: u64,
-    pub next: usize,
+// The cells up to `count` are filled; `form` is the form of the words to come.
+pub struct Line {
+    cells: [u64; CELLS],
+    count: usize,
+    form: u64,
 }
 
-pub struct Number {
-    pub value: u64,
-    pub next: usize,
+// A word up to some byte of it.
+struct Word {
+    state: u8,
+    value: u64,
 }
 
-// A number of at most 255.
-pub struct Small {
-    pub value: u8,
-    pub next: usize,
-}
+const EMPTY: u8 = 0;
 
-pub struct Flag {
-    pub set: bool,
-    pub next: usize,
-}
+const GOOD: u8 = 1;
 
-// The bytes between two places; none where there are no such places.
-pub fn part(line: &[u8], from: usize, to: usize) -> &[u8] {
-    if to <= line.len() {
-        if from <= to {
-            return &line[from..to];
+const BAD: u8 = 2;
+
+// The word with one byte more, for a form: a number of at most 2^64 - 1, or a name of at most eight letters.
+fn longer(word: Word, byte: u8, form: u64) -> Word {
+    let value = word.value;
+    if word.state <= GOOD {
+        if form < forms::NAMES {
+            if b'0' <= byte {
+                if byte <= b'9' {
+                    let digit = (byte - b'0') as u64;
+                    if value <= (18446744073709551615 - digit) / 10 {
+                        return Word {
+                            state: GOOD,
+                            value: value * 10 + digit,
+                        };
+                    }
+                }
+            }
+        } else if byte != 0 {
+            if value < 0x100_0000_0000_0000 {
+                return Word {
+                    state: GOOD,
+                    value: (value << 8) | (byte as u64),
+                };
+            }
         }
     }
-    &line[..0]
-}
-
-// Whether the line ends at a place.
-pub fn ends(line: &[u8], at: usize) -> bool {
-    at == line.len()
-}
-
-// The first space from a place on, or the line's end.
-fn word_end(line: &[u8], from: usize) -> usize {
-    let mut i = from;
-    while i < line.len() {
-        if line[i] == b' ' {
-            return i;
-        }
-        i += 1;
+    Word {
+        state: BAD,
+        value: 0,
     }
-    i
 }
 
-// Where the word behind the space at a place begins; LOST where no space is.
-fn word_start(line: &[u8], at: usize) -> usize {
-    if at < line.len() {
-        if line[at] == b' ' {
-            return at + 1;
+// The line with one word more; if that may not stand there, nothing may any more.
+fn with_word(line: Line, word: Word) -> Line {
+    let mut cells = line.cells;
+    let at = line.count;
+    let skipped = forms::skipped(line.form, word.value);
+    if word.state == GOOD {
+        if at < CELLS {
+            if skipped <= 2 {
+                cells[at] = word.value;
+                return Line {
+                    cells: cells,
+                    count: at + 1 + skipped,
+                    form: forms::behind(line.form, word.value, skipped),
+                };
+            }
         }
     }
-    LOST
+    Line {
+        cells: cells,
+        count: CELLS,
+        form: forms::NONE,
+    }
 }
 
-fn wide(byte: u8) -> u64 {
-    byte as u64
-}
-
-// The number that the bytes of a word are; 0 where there are more than eight.
-pub fn code_of(word: &[u8]) -> u64 {
-    let mut code: u64 = 0;
+pub fn line_of(text: &[u8]) -> Line {
+    let mut line = Line {
+        cells: [0u64; CELLS],
+        count: 0,
+        form: forms::ANY,
+    };
+    let mut word = Word {
+        state: EMPTY,
+        value: 0,
+    };
     let mut i = 0;
-    if 8 < word.len() {
-        return 0;
-    }
-    while i < word.len() {
-        code = (code << 8) | wide(word[i]);
+    while i < text.len() {
+        let byte = text[i];
+        if byte == b' ' {
+            line = with_word(line, word);
+            word = Word {
+                state: EMPTY,
+                value: 0,
+            };
+        } else {
+            word = longer(word, byte, line.form);
+        }
         i += 1;
     }
-    code
+    with_word(line, word)
 }
 
-// The name from a place up to the next space.
-pub fn name_from(line: &[u8], from: usize) -> Name {
-    let next = word_end(line, from);
-    Name {
-        code: code_of(part(line, from, next)),
-        next: next,
+// What is in a cell; 0 where there is no such cell.
+pub fn cell(line: Line, at: usize) -> u64 {
+    let cells = line.cells;
+    if at < CELLS {
+        return cells[at];
     }
+    0
 }
 
-pub fn next_name(line: &[u8], at: usize) -> Name {
-    name_from(line, word_start(line, at))
-}
-
-// A digit's value; 10 for any other byte.
-fn digit(byte: u8) -> u64 {
-    if b'0' <= byte {
-        if byte <= b'9' {
-            return wide(byte - b'0');
-        }
+// The name of the command that a line is; 0 where it is none. Behind the name of a heading anything may stand.
+pub fn command(line: Line) -> u64 {
+    let name = cell(line, 0);
+    if name == names::HEADING {
+        return name;
     }
-    10
-}
-
-// The number that a word of digits is. `next` is the place behind it: LOST where a byte is no digit, or the number is above
-// 2^64 - 1.
-fn number_of(word: &[u8], next: usize) -> Number {
-    let mut value: u64 = 0;
-    let mut i = 0;
-    while i < word.len() {
-        let last = digit(word[i]);
-        if 9 < last {
-            return Number {
-                value: 0,
-                next: LOST,
-            };
-        }
-        if (18446744073709551615 - last) / 10 < value {
-            return Number {
-                value: 0,
-                next: LOST,
-            };
-        }
-        value = value * 10 + last;
-        i += 1;
-    }
-    Number {
-        value: value,
-        next: next,
-    }
-}
-
-// A number of at most 2^64 - 1, of one digit or more.
-pub fn next_number(line: &[u8], at: usize) -> Number {
-    let from = word_start(line, at);
-    let next = word_end(line, from);
-    if from < next {
-        return number_of(part(line, from, next), next);
-    }
-    Number {
-        value: 0,
-        next: LOST,
-    }
-}
-
-pub fn next_small(line: &[u8], at: usize) -> Small {
-    let read = next_number(line, at);
-    let value = read.value;
-    if value <= 255 {
-        return Small {
-            value: value as u8,
-            next: read.next,
-        };
-    }
-    Small {
-        value: 0,
-        next: LOST,
-    }
-}
-
-// 1 for set, 0 for clear.
-pub fn next_flag(line: &[u8], at: usize) -> Flag {
-    let read = next_number(line, at);
-    let value = read.value;
-    if value <= 1 {
-        return Flag {
-            set: value == 1,
-            next: read.next,
-        };
-    }
-    Flag {
-        set: false,
-        next: LOST,
-    }
-}
-
-// Whether the line was understood and ends here; if not, that is said.
-pub fn whole(line: &[u8], at: usize) -> bool {
-    if ends(line, at) {
-        return true;
-    }
-    say::not_understood();
-    false
-}
-
-// The index of one of `places` places, if the line ends here; NOWHERE if not, or if there is no such place, and that is said.
-pub fn index(line: &[u8], at: usize, place: u8, places: usize) -> usize {
-    let index = place as usize;
-    if ends(line, at) {
-        if index < places {
-            return index;
-        }
-    }
-    say::not_understood();
-    NOWHERE
-}
-
-// The number of a node or junction, as its place: the first has number 1.
-pub fn next_place(line: &[u8], at: usize) -> Small {
-    let read = next_small(line, at);
-    let value = read.value;
-    if 1 <= value {
-        return Small {
-            value: value - 1,
-            next: read.next,
-        };
-    }
-    Small {
-        value: 0,
-        next: LOST,
+    match line.form >> 60 {
+        forms::END | forms::MORE => name,
+        _ => 0,
     }
 }

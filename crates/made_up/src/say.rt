@@ -2,6 +2,7 @@
 use crate::names;
 use cars::Car;
 use junction::Junction;
+use plan::JUNCTIONS;
 use plan::NODES;
 use plan::POSITIONS;
 use plan::Plan;
@@ -9,6 +10,8 @@ use ring::Happening;
 use turns::Event;
 use usernode::Activity;
 use usernode::Node;
+use zeronode::PLACES;
+use zeronode::ZeroNode;
 
 pub fn text(bytes: &[u8]) {
     io::write_all(1, bytes);
@@ -88,29 +91,45 @@ fn activity(activity: Activity) {
 }
 
 // The zero node but for its queue.
-pub fn zero_node(sent: Car, count: u8) {
+pub fn zero(zeroth: ZeroNode) {
+    let sent = zeroth.car;
     car(sent);
-    small(count);
+    small(zeroth.count);
 }
 
-pub fn node(node: Node) {
-    let sent = node.car;
-    let doing = node.activity;
-    car(sent);
-    small(node.flag as u8);
-    activity(doing);
-    number(node.held);
-    number(node.letting);
+pub fn queued(zeroth: ZeroNode, place: usize) {
+    let queue = zeroth.queue;
+    if place < PLACES {
+        let slot = queue[place];
+        let waiting = slot.car;
+        car(waiting);
+    }
 }
 
-pub fn junction(junction: Junction) {
-    let main = junction.main;
-    let subring = junction.subring;
-    car(main);
-    car(subring);
-    small(junction.train as u8);
-    small(junction.tour as u8);
-    number(junction.word);
+pub fn node(nodes: [Node; NODES], place: usize) {
+    if place < NODES {
+        let node = nodes[place];
+        let sent = node.car;
+        let doing = node.activity;
+        car(sent);
+        small(node.flag as u8);
+        activity(doing);
+        number(node.held);
+        number(node.letting);
+    }
+}
+
+pub fn junction(junctions: [Junction; JUNCTIONS], place: usize) {
+    if place < JUNCTIONS {
+        let junction = junctions[place];
+        let main = junction.main;
+        let subring = junction.subring;
+        car(main);
+        car(subring);
+        small(junction.train as u8);
+        small(junction.tour as u8);
+        number(junction.word);
+    }
 }
 
 // All values, in use or not.
@@ -126,11 +145,12 @@ pub fn plan(plan: Plan) {
 }
 
 // A node's event, if it has one: node, letter, lock.
-fn event(node: u8, event: Event) {
+fn event(node: u64, happening: Happening) {
+    let event = happening.event;
     let letter = turns::event_letter(event);
     if letter != 0 {
         byte(b',');
-        small(node);
+        number(node);
         byte(b' ');
         byte(letter);
         small(turns::event_lock(event));
@@ -139,12 +159,11 @@ fn event(node: u8, event: Event) {
 
 // A step's number in 01, and its events, nodes ascending.
 pub fn step(value: u8, events: [Happening; NODES]) {
-    let mut i: u8 = 0;
+    let mut i = 0;
     answer(value);
-    while i < 64 {
-        let happening = events[i as usize];
-        let what = happening.event;
-        event(i + 1, what);
+    while i < NODES {
+        let happening = events[i];
         i += 1;
+        event(i as u64, happening);
     }
 }

@@ -4,97 +4,61 @@ use crate::asking;
 use crate::making;
 use crate::names;
 use crate::reading;
+use crate::reading::Line;
 use crate::say;
 use crate::showing;
 use plan::POSITIONS;
 use plan::Plan;
 use ring::State;
 
-// The state, and the one that was put aside.
-struct Memory {
-    state: State,
-    kept: State,
-}
-
-// The state after a line that is a name with something behind it.
-fn told(state: State, line: &[u8]) -> State {
-    let name = reading::name_from(line, 0);
-    let code = name.code;
-    let at = name.next;
-    match code {
-        names::HEADING => state,
-        names::PLAN => making::with_plan(state, line, at),
-        names::ZERO => making::with_zero(state, line, at),
-        names::QUEUE => making::with_queue(state, line, at),
-        names::NODE => making::with_node(state, line, at),
-        names::JUNCTION => making::with_junction(state, line, at),
-        names::START => asking::start(state, line, at),
-        names::TAKE | names::RELEASE | names::FORCE => asking::act(state, code, line, at),
-        names::SHOW => {
-            showing::show(state, line, at);
-            state
-        }
-        _ => {
-            say::not_understood();
-            state
-        }
-    }
-}
-
-// The line as it stands, what it answers, and what is remembered after it.
-fn obeyed(memory: Memory, line: &[u8]) -> Memory {
-    let state = memory.state;
-    let kept = memory.kept;
-    let code = reading::code_of(line);
-    say::text(line);
-    match code {
-        names::KEEP => Memory {
-            state: state,
-            kept: state,
-        },
-        names::BACK => Memory {
-            state: kept,
-            kept: kept,
-        },
-        names::STEP => Memory {
-            state: asking::step(state),
-            kept: kept,
-        },
-        _ => Memory {
-            state: told(state, line),
-            kept: kept,
-        },
-    }
-}
-
-fn first() -> Memory {
+fn first() -> State {
     let started = State::start(Plan {
         rules: 1,
         locks: 1,
         positions: 1,
         values: [0u8; POSITIONS],
     });
-    let state = started.state;
-    Memory {
-        state: state,
-        kept: state,
-    }
+    started.state
 }
 
-// Every line of the script. Text behind the last line end is no line, and that is said.
-pub fn run(script: &[u8]) {
-    let mut memory = first();
+// The state after a line, and what the line answers.
+fn obeyed(state: State, line: Line) -> State {
+    match reading::command(line) {
+        names::PLAN | names::ZERO | names::QUEUE | names::NODE | names::JUNCTION => {
+            return making::made(state, line);
+        }
+        names::START => return asking::start(line),
+        names::STEP => return asking::step(state),
+        names::TAKE | names::RELEASE | names::FORCE => return asking::act(state, line),
+        names::SHOW => showing::show(state, line),
+        names::HEADING => {}
+        _ => say::not_understood(),
+    }
+    state
+}
+
+// Every line of the script: the line as it stands, and what it answers. Tells where the last line ends.
+pub fn run(script: &[u8]) -> usize {
+    let mut state = first();
+    let mut kept = state;
     let mut from = 0;
     let mut i = 0;
     while i < script.len() {
         if script[i] == b'\n' {
-            memory = obeyed(memory, reading::part(script, from, i));
+            let text = &script[from..i];
+            let line = reading::line_of(text);
+            say::text(text);
+            match reading::command(line) {
+                names::KEEP => kept = state,
+                names::BACK => state = kept,
+                _ => state = obeyed(state, line),
+            }
             say::byte(b'\n');
-            from = i + 1;
+            i += 1;
+            from = i;
+        } else {
+            i += 1;
         }
-        i += 1;
     }
-    if from < script.len() {
-        say::not_understood();
-    }
+    from
 }

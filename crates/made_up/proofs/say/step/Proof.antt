@@ -16,23 +16,17 @@ answer-requires c κs = search needs
 loop-holds : tie.Need-loop-holds Inv-loop μ-loop
 loop-holds c = search needs
 
-cast-happening : tie.Need-cast-happening Inv-loop μ-loop
-cast-happening c = search needs
-
 mul-happening : tie.Need-mul-happening Inv-loop μ-loop
 mul-happening c = search needs
 
 array-copy-out-happening : tie.Need-array-copy-out-happening Inv-loop μ-loop
 array-copy-out-happening c = search needs
 
-add-event : tie.Need-add-event Inv-loop μ-loop
-add-event c = search needs
+add-i : tie.Need-add-i Inv-loop μ-loop
+add-i c = search needs
 
 event-requires : tie.Need-event-requires Inv-loop μ-loop
 event-requires c κs = search needs
-
-add-i : tie.Need-add-i Inv-loop μ-loop
-add-i c = search needs
 
 loop-less : tie.Need-loop-less Inv-loop μ-loop
 loop-less c = search needs
@@ -51,12 +45,10 @@ step-spec =
     μ-loop
     answer-requires
     loop-holds
-    cast-happening
     mul-happening
     array-copy-out-happening
-    add-event
-    event-requires
     add-i
+    event-requires
     loop-less
     loop-again
     returns)

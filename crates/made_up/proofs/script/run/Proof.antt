@@ -1,15 +1,15 @@
--- `made_up::script::run` is safe and ends. The measure is what is left of the script; nothing has to hold from turn to turn.
-use Prim.Native.Nat.{_-_}
+-- `made_up::script::run` is safe and ends. The measure is what is left of the script. No line starts behind the place reached.
+use Prim.Native.Nat.{_-_, _≤_}
 use borrow.Author.Needs.{needs}
 use lib.ListN.{length}
 use Rattle.made_up.proofs.script.run.Statement.{statement}
 use Rattle.made_up.proofs.script.run.Tie as tie
 
 abbrev Inv-loop : tie.InvT-loop
-Inv-loop script memory₀ from₀ i₀ memory from i = Unit {0}
+Inv-loop script state₀ kept₀ from₀ i₀ state kept from i = from ≤ i
 
 abbrev μ-loop : tie.MeasureT-loop
-μ-loop script memory₀ from₀ i₀ memory from i = length script - i
+μ-loop script state₀ kept₀ from₀ i₀ state kept from i = length script - i
 
 first-requires : tie.Need-first-requires Inv-loop μ-loop
 first-requires c κs = search needs
@@ -20,17 +20,29 @@ loop-holds c = search needs
 shared-slice-read-if1 : tie.Need-shared-slice-read-if1 Inv-loop μ-loop
 shared-slice-read-if1 c = search needs
 
-part-requires : tie.Need-part-requires Inv-loop μ-loop
-part-requires c κs = search needs
+sub-text : tie.Need-sub-text Inv-loop μ-loop
+sub-text c = search needs
+
+part-text-start : tie.Need-part-text-start Inv-loop μ-loop
+part-text-start c = search needs
+
+part-text-end : tie.Need-part-text-end Inv-loop μ-loop
+part-text-end c = search needs
+
+line-of-requires : tie.Need-line-of-requires Inv-loop μ-loop
+line-of-requires c κs = search needs
+
+text-requires : tie.Need-text-requires Inv-loop μ-loop
+text-requires c κs = search needs
+
+command-requires : tie.Need-command-requires Inv-loop μ-loop
+command-requires c κs = search needs
 
 obeyed-requires : tie.Need-obeyed-requires Inv-loop μ-loop
 obeyed-requires c κs = search needs
 
 byte-requires : tie.Need-byte-requires Inv-loop μ-loop
 byte-requires c κs = search needs
-
-add-from : tie.Need-add-from Inv-loop μ-loop
-add-from c = search needs
 
 add-i : tie.Need-add-i Inv-loop μ-loop
 add-i c = search needs
@@ -41,14 +53,17 @@ loop-less c = search needs
 loop-again : tie.Need-loop-again Inv-loop μ-loop
 loop-again c = search needs
 
-not-understood-requires : tie.Need-not-understood-requires Inv-loop μ-loop
-not-understood-requires c κs = search needs
+add-i-2 : tie.Need-add-i-2 Inv-loop μ-loop
+add-i-2 c = search needs
+
+loop-less-2 : tie.Need-loop-less-2 Inv-loop μ-loop
+loop-less-2 c = search needs
+
+loop-again-2 : tie.Need-loop-again-2 Inv-loop μ-loop
+loop-again-2 c = search needs
 
 returns : tie.Need-returns Inv-loop μ-loop
 returns c = search needs
-
-returns-2 : tie.Need-returns-2 Inv-loop μ-loop
-returns-2 c = search needs
 
 pub run-spec : {M : Type 1} → statement M
 run-spec =
@@ -59,13 +74,18 @@ run-spec =
     first-requires
     loop-holds
     shared-slice-read-if1
-    part-requires
+    sub-text
+    part-text-start
+    part-text-end
+    line-of-requires
+    text-requires
+    command-requires
     obeyed-requires
     byte-requires
-    add-from
     add-i
     loop-less
     loop-again
-    not-understood-requires
-    returns
-    returns-2)
+    add-i-2
+    loop-less-2
+    loop-again-2
+    returns)
