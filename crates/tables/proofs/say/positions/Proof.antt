@@ -1,20 +1,22 @@
--- `tables::say::positions` is safe and ends. The measure is what is left of the positions; nothing has to hold from turn to turn.
-use Prim.Native.Nat.{_-_}
+-- `tables::say::positions` is safe and ends. The measure is the positions left; nothing has to hold from turn to turn.
 use borrow.Author.Needs.{needs}
 use Rattle.tables.proofs.say.positions.Statement.{statement}
 use Rattle.tables.proofs.say.positions.Tie as tie
 
 abbrev Inv-loop : tie.InvT-loop
-Inv-loop plan positions mark₀ i₀ mark i = Unit {0}
+Inv-loop plan left₀ values₀ mark₀ left values mark = Unit {0}
 
 abbrev μ-loop : tie.MeasureT-loop
-μ-loop plan positions mark₀ i₀ mark i = 16 - i
-
-cast-positions : tie.Need-cast-positions Inv-loop μ-loop
-cast-positions c = search needs
+μ-loop plan left₀ values₀ mark₀ left values mark = left
 
 loop-holds : tie.Need-loop-holds Inv-loop μ-loop
 loop-holds c = search needs
+
+cast-t9 : tie.Need-cast-t9 Inv-loop μ-loop
+cast-t9 c = search needs
+
+add-t10 : tie.Need-add-t10 Inv-loop μ-loop
+add-t10 c = search needs
 
 slice-aggregate-write-all : tie.Need-slice-aggregate-write-all Inv-loop μ-loop
 slice-aggregate-write-all c = search needs
@@ -22,17 +24,8 @@ slice-aggregate-write-all c = search needs
 write-all-requires : tie.Need-write-all-requires Inv-loop μ-loop
 write-all-requires c κs = search needs
 
-element-copy-out-print-decimal : tie.Need-element-copy-out-print-decimal Inv-loop μ-loop
-element-copy-out-print-decimal c = search needs
-
-cast-print-decimal : tie.Need-cast-print-decimal Inv-loop μ-loop
-cast-print-decimal c = search needs
-
-print-decimal-requires : tie.Need-print-decimal-requires Inv-loop μ-loop
-print-decimal-requires c κs = search needs
-
-add-i : tie.Need-add-i Inv-loop μ-loop
-add-i c = search needs
+sub-left : tie.Need-sub-left Inv-loop μ-loop
+sub-left c = search needs
 
 loop-less : tie.Need-loop-less Inv-loop μ-loop
 loop-less c = search needs
@@ -49,14 +42,12 @@ positions-spec =
     (tie.spec
     Inv-loop
     μ-loop
-    cast-positions
     loop-holds
+    cast-t9
+    add-t10
     slice-aggregate-write-all
     write-all-requires
-    element-copy-out-print-decimal
-    cast-print-decimal
-    print-decimal-requires
-    add-i
+    sub-left
     loop-less
     loop-again
     returns)
