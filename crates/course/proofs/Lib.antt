@@ -1,5 +1,5 @@
-mod Items
 pub mod Found
+mod LookAhead
 pub mod Moves
 pub mod Told
 pub mod Way

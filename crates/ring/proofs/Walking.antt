@@ -46,6 +46,19 @@ pub record Inside (state : State) (size low k : ℕ) (wants : Bool) (entered wal
   pub wanting : wants ≡ wanted state low k
   pub so-far : walk ≡ iterate (onNode state) k entered
 
+-- at a position of the plan there is room for it, for one more node and for one more junction; inside a subring for one more node
+pub place-room : (state : State) (place : ℕ) (walk : Walk) → Around state place walk → place < state .plan .positions → place < 16
+place-room state place walk a l = omega (arith, a .most)
+
+pub node-room : (state : State) (place : ℕ) (walk : Walk) → Around state place walk → place < state .plan .positions → walk .passed < 64
+node-room state place walk a l = omega (arith, a .most, a .passed-most)
+
+pub junction-room : (state : State) (place : ℕ) (walk : Walk) → Around state place walk → place < state .plan .positions → walk .turned < 16
+junction-room state place walk a l = omega (arith, a .most, a .turned-most)
+
+pub inside-room : (state : State) (size low k : ℕ) (wants : Bool) (entered walk : Walk) → Inside state size low k wants entered walk → k < size → walk .passed < 64
+inside-room state size low k wants entered walk i l = omega (arith, i .room, i .passed)
+
 -- a node's turn, put together from what the calls gave
 pub node-turned : (state : State) (walk : Walk) (turned : Turn) (stray either : Bool)
     → turned ≡ turnHere state walk

@@ -7,7 +7,7 @@ use Rattle.course.specs.Standing.{past}
 use Rattle.course.specs.Wording.{eventHere}
 use Rattle.course.specs.Ready.{aheadOf}
 use Rattle.course.proofs.Way.{Way, toGo, sets-out, way-past, way-step, past-nearer, step-nearer, at-event, at-action, at-ceiling, at-items-end}
-use Rattle.course.proofs.Items.{none-found, stepsTo, way-ahead, ahead-nearer}
+use Rattle.course.proofs.LookAhead.{none-found, stepsTo, way-ahead, ahead-nearer}
 use Rattle.course.proofs.Run.to_line.Statement.{statement}
 use Rattle.course.proofs.Run.to_line.Tie as tie
 

@@ -8,7 +8,7 @@ use mathlib.Core.Bool.{Bool, _||_}
 use Rattle.plan.specs.Plan.{valueAt}
 use Rattle.ring.specs.State.{restNode, restJunction}
 use Rattle.ring.specs.Walk.{quiet, nodeHere, junctionHere, turnHere, intoSubring, setOut}
-use Rattle.ring.proofs.Walking.{walkOf, Around, Inside, around-start, around-node, node-turned, inside-start, inside-node, around-junction, junction-turned, walked}
+use Rattle.ring.proofs.Walking.{walkOf, Around, Inside, place-room, node-room, junction-room, inside-room, around-start, around-node, node-turned, inside-start, inside-node, around-junction, junction-turned, walked}
 use Rattle.ring.proofs.State.walk.Statement.{statement}
 use Rattle.ring.proofs.State.walk.Tie as tie
 
@@ -33,28 +33,28 @@ unfolding setOut quiet
 loop-holds c = around-start (c .before .before .before .before .args .t1) (c .before .before .before .before .pre)
 
 cast-value : tie.Need-cast-value Inv-loop2 μ-loop2 Inv-loop μ-loop
-cast-value c = omega (arith, c .before .loop .inv .most, c .loop-test .taken)
+cast-value c = omega (arith, place-room _ _ _ (c .before .loop .inv) (c .loop-test .taken))
 
 element-copy-out-value : tie.Need-element-copy-out-value Inv-loop2 μ-loop2 Inv-loop μ-loop
-element-copy-out-value c = omega (arith, c .before .loop .inv .most, c .loop-test .taken)
+element-copy-out-value c = place-room _ _ _ (c .before .loop .inv) (c .loop-test .taken)
 
 cast-node : tie.Need-cast-node Inv-loop2 μ-loop2 Inv-loop μ-loop
-cast-node c = omega (arith, c .before .before .before .loop .inv .passed-most, c .before .before .before .loop .inv .most, c .before .before .loop-test .taken)
+cast-node c = omega (arith, node-room _ _ _ (c .before .before .before .loop .inv) (c .before .before .loop-test .taken))
 
 mul-node : tie.Need-mul-node Inv-loop2 μ-loop2 Inv-loop μ-loop
-mul-node c = omega (arith, c .before .before .before .loop .inv .passed-most, c .before .before .before .loop .inv .most, c .before .before .loop-test .taken)
+mul-node c = omega (arith, node-room _ _ _ (c .before .before .before .loop .inv) (c .before .before .loop-test .taken))
 
 element-copy-out-node : tie.Need-element-copy-out-node Inv-loop2 μ-loop2 Inv-loop μ-loop
-element-copy-out-node c = omega (arith, c .before .before .before .loop .inv .passed-most, c .before .before .before .loop .inv .most, c .before .before .loop-test .taken)
+element-copy-out-node c = node-room _ _ _ (c .before .before .before .loop .inv) (c .before .before .loop-test .taken)
 
 add-turn-of : tie.Need-add-turn-of Inv-loop2 μ-loop2 Inv-loop μ-loop
-add-turn-of c = omega (arith, c .before .before .before .before .loop .inv .passed-most, c .before .before .before .before .loop .inv .most, c .before .before .before .loop-test .taken)
+add-turn-of c = omega (arith, node-room _ _ _ (c .before .before .before .before .loop .inv) (c .before .before .before .loop-test .taken))
 
 turn-of-requires : tie.Need-turn-of-requires Inv-loop2 μ-loop2 Inv-loop μ-loop
 turn-of-requires c κs = search needs
 
 add-astray : tie.Need-add-astray Inv-loop2 μ-loop2 Inv-loop μ-loop
-add-astray c = omega (arith, c .before .before .before .before .before .loop .inv .passed-most, c .before .before .before .before .before .loop .inv .most, c .before .before .before .before .loop-test .taken)
+add-astray c = omega (arith, node-room _ _ _ (c .before .before .before .before .before .loop .inv) (c .before .before .before .before .loop-test .taken))
 
 astray-requires : tie.Need-astray-requires Inv-loop2 μ-loop2 Inv-loop μ-loop
 astray-requires c κs = search needs
@@ -63,28 +63,28 @@ either-requires : tie.Need-either-requires Inv-loop2 μ-loop2 Inv-loop μ-loop
 either-requires c κs = search needs
 
 cast-nodes : tie.Need-cast-nodes Inv-loop2 μ-loop2 Inv-loop μ-loop
-cast-nodes c = omega (arith, c .before .before .before .before .before .before .before .before .loop .inv .passed-most, c .before .before .before .before .before .before .before .before .loop .inv .most, c .before .before .before .before .before .before .before .loop-test .taken)
+cast-nodes c = omega (arith, node-room _ _ _ (c .before .before .before .before .before .before .before .before .loop .inv) (c .before .before .before .before .before .before .before .loop-test .taken))
 
 mul-nodes : tie.Need-mul-nodes Inv-loop2 μ-loop2 Inv-loop μ-loop
-mul-nodes c = omega (arith, c .before .before .before .before .before .before .before .before .loop .inv .passed-most, c .before .before .before .before .before .before .before .before .loop .inv .most, c .before .before .before .before .before .before .before .loop-test .taken)
+mul-nodes c = omega (arith, node-room _ _ _ (c .before .before .before .before .before .before .before .before .loop .inv) (c .before .before .before .before .before .before .before .loop-test .taken))
 
 array-set-from-nodes : tie.Need-array-set-from-nodes Inv-loop2 μ-loop2 Inv-loop μ-loop
-array-set-from-nodes c = omega (arith, c .before .before .before .before .before .before .before .before .loop .inv .passed-most, c .before .before .before .before .before .before .before .before .loop .inv .most, c .before .before .before .before .before .before .before .loop-test .taken)
+array-set-from-nodes c = node-room _ _ _ (c .before .before .before .before .before .before .before .before .loop .inv) (c .before .before .before .before .before .before .before .loop-test .taken)
 
 cast-events : tie.Need-cast-events Inv-loop2 μ-loop2 Inv-loop μ-loop
-cast-events c = omega (arith, c .before .before .before .before .before .before .before .before .loop .inv .passed-most, c .before .before .before .before .before .before .before .before .loop .inv .most, c .before .before .before .before .before .before .before .loop-test .taken)
+cast-events c = omega (arith, node-room _ _ _ (c .before .before .before .before .before .before .before .before .loop .inv) (c .before .before .before .before .before .before .before .loop-test .taken))
 
 mul-events : tie.Need-mul-events Inv-loop2 μ-loop2 Inv-loop μ-loop
-mul-events c = omega (arith, c .before .before .before .before .before .before .before .before .loop .inv .passed-most, c .before .before .before .before .before .before .before .before .loop .inv .most, c .before .before .before .before .before .before .before .loop-test .taken)
+mul-events c = omega (arith, node-room _ _ _ (c .before .before .before .before .before .before .before .before .loop .inv) (c .before .before .before .before .before .before .before .loop-test .taken))
 
 array-set-from-events : tie.Need-array-set-from-events Inv-loop2 μ-loop2 Inv-loop μ-loop
-array-set-from-events c = omega (arith, c .before .before .before .before .before .before .before .before .loop .inv .passed-most, c .before .before .before .before .before .before .before .before .loop .inv .most, c .before .before .before .before .before .before .before .loop-test .taken)
+array-set-from-events c = node-room _ _ _ (c .before .before .before .before .before .before .before .before .loop .inv) (c .before .before .before .before .before .before .before .loop-test .taken)
 
 add-passed : tie.Need-add-passed Inv-loop2 μ-loop2 Inv-loop μ-loop
-add-passed c = omega (arith, c .before .before .before .before .before .before .before .before .loop .inv .passed-most, c .before .before .before .before .before .before .before .before .loop .inv .most, c .before .before .before .before .before .before .before .loop-test .taken)
+add-passed c = omega (arith, node-room _ _ _ (c .before .before .before .before .before .before .before .before .loop .inv) (c .before .before .before .before .before .before .before .loop-test .taken))
 
 add-place : tie.Need-add-place Inv-loop2 μ-loop2 Inv-loop μ-loop
-add-place c = omega (arith, c .before .before .before .before .before .before .before .before .loop .inv .most, c .before .before .before .before .before .before .before .loop-test .taken)
+add-place c = omega (arith, place-room _ _ _ (c .before .before .before .before .before .before .before .before .loop .inv) (c .before .before .before .before .before .before .before .loop-test .taken))
 
 loop-less : tie.Need-loop-less Inv-loop2 μ-loop2 Inv-loop μ-loop
 loop-less c = omega (arith, c .before .before .before .before .before .before .before .loop-test .taken)
@@ -96,35 +96,35 @@ loop-again c =
     (node-turned _ _ _ _ _ (c .before .before .before .turn-of .ensures) (c .before .before .astray .ensures) (c .before .either .ensures))
 
 cast-junction : tie.Need-cast-junction Inv-loop2 μ-loop2 Inv-loop μ-loop
-cast-junction c = omega (arith, c .before .before .before .loop .inv .turned-most, c .before .before .before .loop .inv .most, c .before .before .loop-test .taken)
+cast-junction c = omega (arith, junction-room _ _ _ (c .before .before .before .loop .inv) (c .before .before .loop-test .taken))
 
 mul-junction : tie.Need-mul-junction Inv-loop2 μ-loop2 Inv-loop μ-loop
-mul-junction c = omega (arith, c .before .before .before .loop .inv .turned-most, c .before .before .before .loop .inv .most, c .before .before .loop-test .taken)
+mul-junction c = omega (arith, junction-room _ _ _ (c .before .before .before .loop .inv) (c .before .before .loop-test .taken))
 
 element-copy-out-junction : tie.Need-element-copy-out-junction Inv-loop2 μ-loop2 Inv-loop μ-loop
-element-copy-out-junction c = omega (arith, c .before .before .before .loop .inv .turned-most, c .before .before .before .loop .inv .most, c .before .before .loop-test .taken)
+element-copy-out-junction c = junction-room _ _ _ (c .before .before .before .loop .inv) (c .before .before .loop-test .taken)
 
 loop2-holds : tie.Need-loop2-holds Inv-loop2 μ-loop2 Inv-loop μ-loop
 unfolding intoSubring junctionHere restJunction valueAt
 loop2-holds c = inside-start _ _ _ (c .before .before .before .before .loop .inv) (c .before .before .before .loop-test .taken) (c .before .before .before .before .before .before .before .before .before .pre)
 
 cast-node-2 : tie.Need-cast-node-2 Inv-loop2 μ-loop2 Inv-loop μ-loop
-cast-node-2 c = omega (arith, c .before .loop2 .inv .passed, c .before .loop2 .inv .room, c .loop2-test .taken)
+cast-node-2 c = omega (arith, inside-room _ _ _ _ _ _ _ (c .before .loop2 .inv) (c .loop2-test .taken))
 
 mul-node-2 : tie.Need-mul-node-2 Inv-loop2 μ-loop2 Inv-loop μ-loop
-mul-node-2 c = omega (arith, c .before .loop2 .inv .passed, c .before .loop2 .inv .room, c .loop2-test .taken)
+mul-node-2 c = omega (arith, inside-room _ _ _ _ _ _ _ (c .before .loop2 .inv) (c .loop2-test .taken))
 
 element-copy-out-node-2 : tie.Need-element-copy-out-node-2 Inv-loop2 μ-loop2 Inv-loop μ-loop
-element-copy-out-node-2 c = omega (arith, c .before .loop2 .inv .passed, c .before .loop2 .inv .room, c .loop2-test .taken)
+element-copy-out-node-2 c = inside-room _ _ _ _ _ _ _ (c .before .loop2 .inv) (c .loop2-test .taken)
 
 add-turn-of-2 : tie.Need-add-turn-of-2 Inv-loop2 μ-loop2 Inv-loop μ-loop
-add-turn-of-2 c = omega (arith, c .before .before .loop2 .inv .passed, c .before .before .loop2 .inv .room, c .before .loop2-test .taken)
+add-turn-of-2 c = omega (arith, inside-room _ _ _ _ _ _ _ (c .before .before .loop2 .inv) (c .before .loop2-test .taken))
 
 turn-of-requires-2 : tie.Need-turn-of-requires-2 Inv-loop2 μ-loop2 Inv-loop μ-loop
 turn-of-requires-2 c κs = search needs
 
 add-astray-2 : tie.Need-add-astray-2 Inv-loop2 μ-loop2 Inv-loop μ-loop
-add-astray-2 c = omega (arith, c .before .before .before .loop2 .inv .passed, c .before .before .before .loop2 .inv .room, c .before .before .loop2-test .taken)
+add-astray-2 c = omega (arith, inside-room _ _ _ _ _ _ _ (c .before .before .before .loop2 .inv) (c .before .before .loop2-test .taken))
 
 astray-requires-2 : tie.Need-astray-requires-2 Inv-loop2 μ-loop2 Inv-loop μ-loop
 astray-requires-2 c κs = search needs
@@ -139,25 +139,25 @@ either-requires-3 : tie.Need-either-requires-3 Inv-loop2 μ-loop2 Inv-loop μ-lo
 either-requires-3 c κs = search needs
 
 cast-nodes-2 : tie.Need-cast-nodes-2 Inv-loop2 μ-loop2 Inv-loop μ-loop
-cast-nodes-2 c = omega (arith, c .before .before .before .before .before .before .before .before .loop2 .inv .passed, c .before .before .before .before .before .before .before .before .loop2 .inv .room, c .before .before .before .before .before .before .before .loop2-test .taken)
+cast-nodes-2 c = omega (arith, inside-room _ _ _ _ _ _ _ (c .before .before .before .before .before .before .before .before .loop2 .inv) (c .before .before .before .before .before .before .before .loop2-test .taken))
 
 mul-nodes-2 : tie.Need-mul-nodes-2 Inv-loop2 μ-loop2 Inv-loop μ-loop
-mul-nodes-2 c = omega (arith, c .before .before .before .before .before .before .before .before .loop2 .inv .passed, c .before .before .before .before .before .before .before .before .loop2 .inv .room, c .before .before .before .before .before .before .before .loop2-test .taken)
+mul-nodes-2 c = omega (arith, inside-room _ _ _ _ _ _ _ (c .before .before .before .before .before .before .before .before .loop2 .inv) (c .before .before .before .before .before .before .before .loop2-test .taken))
 
 array-set-from-nodes-2 : tie.Need-array-set-from-nodes-2 Inv-loop2 μ-loop2 Inv-loop μ-loop
-array-set-from-nodes-2 c = omega (arith, c .before .before .before .before .before .before .before .before .loop2 .inv .passed, c .before .before .before .before .before .before .before .before .loop2 .inv .room, c .before .before .before .before .before .before .before .loop2-test .taken)
+array-set-from-nodes-2 c = inside-room _ _ _ _ _ _ _ (c .before .before .before .before .before .before .before .before .loop2 .inv) (c .before .before .before .before .before .before .before .loop2-test .taken)
 
 cast-events-2 : tie.Need-cast-events-2 Inv-loop2 μ-loop2 Inv-loop μ-loop
-cast-events-2 c = omega (arith, c .before .before .before .before .before .before .before .before .loop2 .inv .passed, c .before .before .before .before .before .before .before .before .loop2 .inv .room, c .before .before .before .before .before .before .before .loop2-test .taken)
+cast-events-2 c = omega (arith, inside-room _ _ _ _ _ _ _ (c .before .before .before .before .before .before .before .before .loop2 .inv) (c .before .before .before .before .before .before .before .loop2-test .taken))
 
 mul-events-2 : tie.Need-mul-events-2 Inv-loop2 μ-loop2 Inv-loop μ-loop
-mul-events-2 c = omega (arith, c .before .before .before .before .before .before .before .before .loop2 .inv .passed, c .before .before .before .before .before .before .before .before .loop2 .inv .room, c .before .before .before .before .before .before .before .loop2-test .taken)
+mul-events-2 c = omega (arith, inside-room _ _ _ _ _ _ _ (c .before .before .before .before .before .before .before .before .loop2 .inv) (c .before .before .before .before .before .before .before .loop2-test .taken))
 
 array-set-from-events-2 : tie.Need-array-set-from-events-2 Inv-loop2 μ-loop2 Inv-loop μ-loop
-array-set-from-events-2 c = omega (arith, c .before .before .before .before .before .before .before .before .loop2 .inv .passed, c .before .before .before .before .before .before .before .before .loop2 .inv .room, c .before .before .before .before .before .before .before .loop2-test .taken)
+array-set-from-events-2 c = inside-room _ _ _ _ _ _ _ (c .before .before .before .before .before .before .before .before .loop2 .inv) (c .before .before .before .before .before .before .before .loop2-test .taken)
 
 add-passed-2 : tie.Need-add-passed-2 Inv-loop2 μ-loop2 Inv-loop μ-loop
-add-passed-2 c = omega (arith, c .before .before .before .before .before .before .before .before .loop2 .inv .passed, c .before .before .before .before .before .before .before .before .loop2 .inv .room, c .before .before .before .before .before .before .before .loop2-test .taken)
+add-passed-2 c = omega (arith, inside-room _ _ _ _ _ _ _ (c .before .before .before .before .before .before .before .before .loop2 .inv) (c .before .before .before .before .before .before .before .loop2-test .taken))
 
 add-k : tie.Need-add-k Inv-loop2 μ-loop2 Inv-loop μ-loop
 add-k c = omega (arith, c .before .before .before .before .before .before .before .before .loop2 .inv .size-most, c .before .before .before .before .before .before .before .loop2-test .taken)
@@ -175,19 +175,19 @@ turn-requires : tie.Need-turn-requires Inv-loop2 μ-loop2 Inv-loop μ-loop
 turn-requires c κs = search needs
 
 cast-junctions : tie.Need-cast-junctions Inv-loop2 μ-loop2 Inv-loop μ-loop
-cast-junctions c = omega (arith, c .before .before .before .before .before .before .before .loop .inv .turned-most, c .before .before .before .before .before .before .before .loop .inv .most, c .before .before .before .before .before .before .loop-test .taken)
+cast-junctions c = omega (arith, junction-room _ _ _ (c .before .before .before .before .before .before .before .loop .inv) (c .before .before .before .before .before .before .loop-test .taken))
 
 mul-junctions : tie.Need-mul-junctions Inv-loop2 μ-loop2 Inv-loop μ-loop
-mul-junctions c = omega (arith, c .before .before .before .before .before .before .before .loop .inv .turned-most, c .before .before .before .before .before .before .before .loop .inv .most, c .before .before .before .before .before .before .loop-test .taken)
+mul-junctions c = omega (arith, junction-room _ _ _ (c .before .before .before .before .before .before .before .loop .inv) (c .before .before .before .before .before .before .loop-test .taken))
 
 array-set-from-junctions : tie.Need-array-set-from-junctions Inv-loop2 μ-loop2 Inv-loop μ-loop
-array-set-from-junctions c = omega (arith, c .before .before .before .before .before .before .before .loop .inv .turned-most, c .before .before .before .before .before .before .before .loop .inv .most, c .before .before .before .before .before .before .loop-test .taken)
+array-set-from-junctions c = junction-room _ _ _ (c .before .before .before .before .before .before .before .loop .inv) (c .before .before .before .before .before .before .loop-test .taken)
 
 add-turned : tie.Need-add-turned Inv-loop2 μ-loop2 Inv-loop μ-loop
-add-turned c = omega (arith, c .before .before .before .before .before .before .before .loop .inv .turned-most, c .before .before .before .before .before .before .before .loop .inv .most, c .before .before .before .before .before .before .loop-test .taken)
+add-turned c = omega (arith, junction-room _ _ _ (c .before .before .before .before .before .before .before .loop .inv) (c .before .before .before .before .before .before .loop-test .taken))
 
 add-place-2 : tie.Need-add-place-2 Inv-loop2 μ-loop2 Inv-loop μ-loop
-add-place-2 c = omega (arith, c .before .before .before .before .before .before .before .loop .inv .most, c .before .before .before .before .before .before .loop-test .taken)
+add-place-2 c = omega (arith, place-room _ _ _ (c .before .before .before .before .before .before .before .loop .inv) (c .before .before .before .before .before .before .loop-test .taken))
 
 loop-less-2 : tie.Need-loop-less-2 Inv-loop2 μ-loop2 Inv-loop μ-loop
 loop-less-2 c = omega (arith, c .before .before .before .before .before .before .loop-test .taken)
