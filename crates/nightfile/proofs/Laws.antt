@@ -13,7 +13,7 @@ use borrow.Author.Tests.{eqb-true, ltb-false, not-false}
 use Rattle.lists.specs.Refusal.{refusedIf}
 use Rattle.lists.proofs.Laws.{and-right}
 use Rattle.plan.specs.Plan.{inRange}
-use Rattle.nightfile.specs.File.{byteAt, lengthWrong, entryAt, entryLength, scheduleStart, contentsRight, planBody, scheduleBody, planLengthWrong, planOf, scheduleNumber, bodiesNumber, fileNumber, ifAccepted, planPart}
+use Rattle.nightfile.specs.File.{byteAt, lengthWrong, entryAt, entryLength, scheduleStart, contentsRight, planBody, scheduleBody, planLengthWrong, planOf, scheduleNumber, bodiesNumber, fileNumber, ifAccepted, planPart, partAt}
 
 -- a byte past the end is 0, with zeros written there or not
 padded-at : (bytes : List ℕ) (n at : ℕ) → getD (bytes ++ replicate n 0) at 0 ≡ getD bytes at 0
@@ -110,3 +110,16 @@ accepted file e =
 pub plan-shown : (file : List ℕ) → fileNumber file ≡ 0 → planPart file ≡ planBody file
 unfolding planPart ifAccepted
 plan-shown file e = rw e
+
+-- where a part lies: of an accepted file behind the file's start, of a refused one at it
+pub part-place : (place : ℕ × ℕ) (file : List ℕ) (start at : ℕ) → eqb (fileNumber file) 0 ≡ true → start ≡ at → (place .0, start + place .1) ≡ partAt place file at
+unfolding partAt
+part-place place file start at e s =
+    let there : start + place .1 ≡ place .1 + at = omega (arith, s) in
+    rw e (λ i. (place .0, there i))
+
+pub refused-place : (place : ℕ × ℕ) (file : List ℕ) (at : ℕ) → eqb (fileNumber file) 0 ≡ false → place ≡ partAt place file at
+unfolding partAt
+refused-place place file at e =
+    let there : place .1 ≡ place .1 + 0 = omega arith in
+    rw e (λ i. (place .0, there i))

@@ -100,6 +100,11 @@ planPart file = ifAccepted file (planBody file)
 unfoldable pub schedulePart : List ℕ → List ℕ
 schedulePart file = ifAccepted file (scheduleBody file)
 
+-- "shown as parts of the caller's file": by the file's place in memory, a block and an offset in it, a part that starts so many bytes
+-- behind the file's start lies in the same block, that much further; the empty part of a refused file lies at the file's start
+unfoldable pub partAt : ℕ × ℕ → List ℕ → ℕ → ℕ × ℕ
+partAt place file start = (place .0, place .1 + cond (eqb (fileNumber file) 0) start 0)
+
 -- the number of an answer
 unfoldable pub fileAnswerNumber : FileAnswer → ℕ
 fileAnswerNumber Accepted = 0

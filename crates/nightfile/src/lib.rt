@@ -1,6 +1,6 @@
 // The night file: whether it is accepted or which of 1 to 6 it is refused with, its two parts and the plan.
 ghost use mathlib.Core.Path.{_≡_};
-ghost use Rattle.nightfile.specs.File.{twoAt, fileNumber, fileAnswerNumber, planPart, schedulePart, planOf};
+ghost use Rattle.nightfile.specs.File.{twoAt, fileNumber, fileAnswerNumber, planPart, schedulePart, scheduleStart, partAt, planOf};
 use plan::Plan;
 
 mod bodies;
@@ -66,6 +66,7 @@ pub fn test_file(file: &[u8]) -> FileAnswer
 // The plan's part of the file; an empty part of a refused file.
 pub fn plan_part(file: &[u8]) -> &[u8]
     ensures { λ r. ⌜ now r ≡ planPart (now (file .entry)) ⌝ }
+    ensures { λ r. ⌜ r .ptr ≡ partAt (file .entry .ptr) (now (file .entry)) 11 ⌝ }
 {
     let number = file_number(test_file(file));
     if number == 0 {
@@ -78,6 +79,7 @@ pub fn plan_part(file: &[u8]) -> &[u8]
 // The schedule's part of the file; an empty part of a refused file.
 pub fn schedule_part(file: &[u8]) -> &[u8]
     ensures { λ r. ⌜ now r ≡ schedulePart (now (file .entry)) ⌝ }
+    ensures { λ r. ⌜ r .ptr ≡ partAt (file .entry .ptr) (now (file .entry)) (scheduleStart (now (file .entry))) ⌝ }
 {
     let number = file_number(test_file(file));
     if number == 0 {

@@ -29,7 +29,7 @@ first-phase-requires c κs = search needs
 
 returns : tie.Need-returns
 unfolding beginning quiet
-returns c = simp (c .first-phase .ensures, c .before .empty-tally .ensures, started-state _ _ (c .before .before .before .start .ensures), c .before .before .before .before .read-plan .ensures, c .before .before .before .before .before .plan-part .ensures, c .before .before .before .before .before .before .file-number .ensures, c .before .before .before .before .before .before .before .test-file .ensures)
+returns c = simp (c .first-phase .ensures, c .before .empty-tally .ensures, started-state _ _ (c .before .before .before .start .ensures), c .before .before .before .before .read-plan .ensures, c .before .before .before .before .before .plan-part .ensures .0, c .before .before .before .before .before .before .file-number .ensures, c .before .before .before .before .before .before .before .test-file .ensures)
 
 pub begin-spec : {M : Type 1} → statement M
 begin-spec =

@@ -1,10 +1,10 @@
 -- `plan_part` gives `planPart`: an accepted file's plan lies within the file.
-use mathlib.Core.Path.{sym, _∙_}
+use mathlib.Core.Path.{sym, _∙_, refl}
 use native.Mathlib.Omega.{arith}
 use borrow.Author.Tests.{eq-eqb, ne-eqb}
 use borrow.Author.Needs.{needs}
 use Rattle.nightfile.specs.File.{planPart, ifAccepted}
-use Rattle.nightfile.proofs.Laws.{plan-cut, start-most, accepted}
+use Rattle.nightfile.proofs.Laws.{plan-cut, start-most, accepted, part-place, refused-place}
 use Rattle.nightfile.proofs.plan_part.Statement.{statement}
 use Rattle.nightfile.proofs.plan_part.Tie as tie
 
@@ -30,14 +30,14 @@ part-result-end c =
 
 returns : tie.Need-returns
 unfolding planPart ifAccepted
-returns c = simp (← c .before .before .before .before .test-file .ensures, ← c .before .before .before .file-number .ensures, eq-eqb _ _ (c .before .before .if1 .taken), c .before .schedule-start .ensures .0, plan-cut)
+returns c = (simp (← c .before .before .before .before .test-file .ensures, ← c .before .before .before .file-number .ensures, eq-eqb _ _ (c .before .before .if1 .taken), c .before .schedule-start .ensures .0, plan-cut), part-place _ _ _ _ (simp (← c .before .before .before .before .test-file .ensures, ← c .before .before .before .file-number .ensures, eq-eqb _ _ (c .before .before .if1 .taken))) refl)
 
 slice-aggregate-result : tie.Need-slice-aggregate-result
 slice-aggregate-result c = search needs
 
 returns-2 : tie.Need-returns-2
 unfolding planPart ifAccepted
-returns-2 c = simp (← c .before .before .before .test-file .ensures, ← c .before .before .file-number .ensures, ne-eqb _ _ (c .before .if1 .left))
+returns-2 c = (simp (← c .before .before .before .test-file .ensures, ← c .before .before .file-number .ensures, ne-eqb _ _ (c .before .if1 .left)), refused-place _ _ _ (simp (← c .before .before .before .test-file .ensures, ← c .before .before .file-number .ensures, ne-eqb _ _ (c .before .if1 .left))))
 
 pub plan-part-spec : {M : Type 1} → statement M
 plan-part-spec =

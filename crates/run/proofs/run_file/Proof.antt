@@ -18,7 +18,7 @@ numbers-requires c κs = search needs
 
 returns : tie.Need-returns
 unfolding fileOutcome fileCourse
-returns c = simp (c .numbers .ensures, c .before .finish .ensures, c .before .before .begin .ensures, c .before .before .before .schedule-part .ensures)
+returns c = simp (c .numbers .ensures, c .before .finish .ensures, c .before .before .begin .ensures, c .before .before .before .schedule-part .ensures .0)
 
 pub run-file-spec : {M : Type 1} → statement M
 run-file-spec =
