@@ -24,15 +24,10 @@ use Rattle.nightfile.specs.File.{fileAnswerNumber}
 use Rattle.lines.specs.declared.Written.{Written}
 use Rattle.lines.specs.declared.Written.the-variants.{Length, TooShort}
 use Rattle.lines.specs.Line.{Told as LineTold, writtenNumber, writtenLength, writtenTold}
-use Rattle.settled.specs.Settled.{Settled}
 
--- where f tells answers apart, a promise that fixes what f tells settles the answer: the one lemma behind every theorem of Model
-pub settled-by : {A B : Type 0} (f : A → B) → ((x y : A) → f x ≡ f y → x ≡ y) → (d : B) → Settled (λ r. f r ≡ d)
-settled-by f apart d a b p q = apart a b (p ∙ sym q)
-
--- a promise that names the answer itself
-pub settled : {A : Type 0} (d : A) → Settled (λ r. r ≡ d)
-settled = settled-by (λ r. r) (λ x y e. e)
+-- two answers that are the one named are equal
+pub same : {A : Type 0} {d x y : A} → x ≡ d → y ≡ d → x ≡ y
+same p q = p ∙ sym q
 
 -- f tells apart whatever can be read back
 read-back : {A B : Type 0} (f : A → B) (back : B → A) → ((x : A) → back (f x) ≡ x) → (x y : A) → f x ≡ f y → x ≡ y

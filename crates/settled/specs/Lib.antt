@@ -1,1 +1,3 @@
 pub mod Settled
+pub mod Model
+pub mod Night
