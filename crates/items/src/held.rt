@@ -2,22 +2,22 @@
 // one of `lent`.
 ghost use mathlib.Core.Path.{_≡_};
 ghost use Rattle.items.specs.Items.{readAt};
-use crate::ItemAnswer;
 use crate::Reader;
+use crate::Reading;
 
 impl<'a> Reader<'a> {
-    // A reader at the start of a schedule.
-    pub fn new(schedule: &'a [u8]) -> Reader<'a>
-        ensures { λ r. ⌜ (r .schedule ≡ schedule .entry) × (r .at ≡ 0) ⌝ }
+    // A reader at a place of a schedule.
+    pub fn new(schedule: &'a [u8], at: usize) -> Reader<'a>
+        ensures { λ r. ⌜ (r .schedule ≡ schedule .entry) × (r .at ≡ at) ⌝ }
     {
-        Reader { schedule, at: 0 }
+        Reader { schedule, at }
     }
 
-    // What is found at its place.
-    pub fn item(self) -> ItemAnswer
-        ensures { λ r. ⌜ r ≡ readAt (now (self .entry .schedule)) (self .entry .at) .answer ⌝ }
+    // What is read at its place, and the place afterwards.
+    pub fn read(self) -> Reading
+        ensures { λ r. ⌜ r ≡ readAt (now (self .entry .schedule)) (self .entry .at) ⌝ }
     {
-        crate::lent::answer_at(self.schedule, self.at)
+        crate::lent::read_at(self.schedule, self.at)
     }
 
     // The reader at the place after that: past the item, or where it is if none is found.

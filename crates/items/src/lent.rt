@@ -67,14 +67,6 @@ pub fn read_at(schedule: &[u8], at: usize) -> Reading
     reading_of(ItemAnswer::Found(item), at + 3)
 }
 
-// What is found at a place.
-pub fn answer_at(schedule: &[u8], at: usize) -> ItemAnswer
-    ensures { λ r. ⌜ r ≡ readAt (now (schedule .entry)) at .answer ⌝ }
-{
-    let reading = read_at(schedule, at);
-    reading.answer
-}
-
 // The place after what is found at a place.
 pub fn place_after(schedule: &[u8], at: usize) -> usize
     ensures { λ r. ⌜ r ≡ readAt (now (schedule .entry)) at .at ⌝ }

@@ -49,9 +49,9 @@ pub fn item_number(answer: ItemAnswer) -> u8
     }
 }
 
-// What is found at the start of a schedule: through the reader that holds it, for callers that hold none.
-pub fn first_item(schedule: &[u8]) -> ItemAnswer
-    ensures { λ r. ⌜ r ≡ readAt (now (schedule .entry)) 0 .answer ⌝ }
+// What is read at a place of a schedule, and the place afterwards: through the reader that holds it, for callers that hold none.
+pub fn item_from(schedule: &[u8], at: usize) -> Reading
+    ensures { λ r. ⌜ r ≡ readAt (now (schedule .entry)) at ⌝ }
 {
-    Reader::new(schedule).item()
+    Reader::new(schedule, at).read()
 }
