@@ -2,7 +2,6 @@
 ghost use mathlib.Core.Path.{_≡_};
 ghost use Rattle.items.specs.Items.{readAt};
 ghost use Rattle.course.specs.Ready.{aheadOf};
-use items::Cursor;
 use items::Item;
 use items::ItemAnswer;
 
@@ -17,8 +16,7 @@ pub(crate) struct Ahead {
 pub(crate) fn look_ahead(schedule: &[u8], at: usize) -> Ahead
     ensures { λ r. ⌜ r ≡ aheadOf (readAt (now (schedule .entry)) at) ⌝ }
 {
-    let cursor = Cursor { at: at };
-    let reading = cursor.read(schedule);
+    let reading = items::item_from(schedule, at);
     let answer = reading.answer;
     let none = Ahead {
         action: false,

@@ -15,7 +15,6 @@ use course::Line;
 use course::Phase;
 use course::Reached;
 use course::Run;
-use items::Cursor;
 use items::Item;
 use items::ItemAnswer;
 use tally::LOCKS;
@@ -171,8 +170,7 @@ fn item_saying(run: Run, item: Item, place: usize) -> Saying
 fn answer_saying(run: Run, schedule: &[u8]) -> Saying
     ensures { λ r. ⌜ r ≡ answerSaying (answerHere (now (schedule .entry)) run) run ⌝ }
 {
-    let cursor = Cursor { at: run.at };
-    let reading = cursor.read(schedule);
+    let reading = items::item_from(schedule, run.at);
     let answer = reading.answer;
     match answer {
         ItemAnswer::NoMore => no_saying(run),

@@ -4,8 +4,8 @@ use Rattle.course.specs.Ready.{isAct, isAction, stepsOf, isSteps, stepsF
 use Rattle.course.proofs.ahead.look_ahead.Statement.{statement}
 use Rattle.course.proofs.ahead.look_ahead.Tie as tie
 
-read-requires : tie.Need-read-requires
-read-requires c κs = search needs
+item-from-requires : tie.Need-item-from-requires
+item-from-requires c κs = search needs
 
 enum-told : tie.Need-enum-told
 enum-told c = search needs
@@ -27,24 +27,24 @@ enum-told-3 c = search needs
 
 returns : tie.Need-returns
 unfolding aheadOf isAction isSteps stepsFound isAct stepsOf
-returns c = simp (← c .before .before .read .ensures, c .enum-told .given .1)
+returns c = simp (← c .before .before .item-from .ensures, c .enum-told .given .1)
 
 returns-2 : tie.Need-returns-2
 unfolding aheadOf isAction isSteps stepsFound isAct stepsOf
-returns-2 c = simp (← c .before .before .before .before .before .before .read .ensures, c .before .before .before .before .answer .given .1, c .before .item .given .1)
+returns-2 c = simp (← c .before .before .before .before .before .before .item-from .ensures, c .before .before .before .before .answer .given .1, c .before .item .given .1)
 
 returns-3 : tie.Need-returns-3
 unfolding aheadOf isAction isSteps stepsFound isAct stepsOf
-returns-3 c = simp (← c .before .before .before .before .before .before .read .ensures, c .before .before .before .before .answer .given .1, c .before .item2 .given .1)
+returns-3 c = simp (← c .before .before .before .before .before .before .item-from .ensures, c .before .before .before .before .answer .given .1, c .before .item2 .given .1)
 
 returns-4 : tie.Need-returns-4
 unfolding aheadOf isAction isSteps stepsFound isAct stepsOf
-returns-4 c = simp (← c .before .before .read .ensures, c .enum-told2 .given .1)
+returns-4 c = simp (← c .before .before .item-from .ensures, c .enum-told2 .given .1)
 
 returns-5 : tie.Need-returns-5
 unfolding aheadOf isAction isSteps stepsFound isAct stepsOf
-returns-5 c = simp (← c .before .before .read .ensures, c .enum-told3 .given .1)
+returns-5 c = simp (← c .before .before .item-from .ensures, c .enum-told3 .given .1)
 
 pub look-ahead-spec : {M : Type 1} → statement M
 look-ahead-spec =
-    tie.close (tie.spec read-requires enum-told enum-known-answer enum-known-item enum-known-item-2 enum-told-2 enum-told-3 returns returns-2 returns-3 returns-4 returns-5)
+    tie.close (tie.spec item-from-requires enum-told enum-known-answer enum-known-item enum-known-item-2 enum-told-2 enum-told-3 returns returns-2 returns-3 returns-4 returns-5)

@@ -9,8 +9,8 @@ use borrow.Author.Needs.{needs}
 use Rattle.run.proofs.current.answer_saying.Statement.{statement}
 use Rattle.run.proofs.current.answer_saying.Tie as tie
 
-read-requires : tie.Need-read-requires
-read-requires c κs = search needs
+item-from-requires : tie.Need-item-from-requires
+item-from-requires c κs = search needs
 
 enum-told : tie.Need-enum-told
 enum-told c = search needs
@@ -22,7 +22,7 @@ enum-known-answer : tie.Need-enum-known-answer
 enum-known-answer c = search needs
 
 item-saying-requires : tie.Need-item-saying-requires
-item-saying-requires c κs = ap (λ (r : Reading). r .at) (c .before .before .before .read .ensures) ∙ found-moves _ _ _ (ap (λ (r : Reading). r .answer) (sym (c .before .before .before .read .ensures)) ∙ c .before .answer .given .1) .0
+item-saying-requires c κs = ap (λ (r : Reading). r .at) (c .before .before .before .item-from .ensures) ∙ found-moves _ _ _ (ap (λ (r : Reading). r .answer) (sym (c .before .before .before .item-from .ensures)) ∙ c .before .answer .given .1) .0
 
 enum-told-2 : tie.Need-enum-told-2
 enum-told-2 c = search needs
@@ -38,25 +38,25 @@ no-saying-requires-3 c κs = search needs
 
 returns : tie.Need-returns
 unfolding answerSaying answerHere
-returns c = c .no-saying .ensures ∙ ap (λ (a : ItemAnswer). answerSaying a (c .before .before .before .before .before .args .run)) (sym (c .before .enum-told .given .1) ∙ ap (λ (r : Reading). r .answer) (c .before .before .before .read .ensures))
+returns c = c .no-saying .ensures ∙ ap (λ (a : ItemAnswer). answerSaying a (c .before .before .before .before .before .args .run)) (sym (c .before .enum-told .given .1) ∙ ap (λ (r : Reading). r .answer) (c .before .before .before .item-from .ensures))
 
 returns-2 : tie.Need-returns-2
 unfolding answerSaying answerHere
-returns-2 c = c .item-saying .ensures ∙ ap (λ (a : ItemAnswer). answerSaying a (c .before .before .before .before .before .before .args .run)) (sym (c .before .before .answer .given .1) ∙ ap (λ (r : Reading). r .answer) (c .before .before .before .before .read .ensures))
+returns-2 c = c .item-saying .ensures ∙ ap (λ (a : ItemAnswer). answerSaying a (c .before .before .before .before .before .before .args .run)) (sym (c .before .before .answer .given .1) ∙ ap (λ (r : Reading). r .answer) (c .before .before .before .before .item-from .ensures))
 
 returns-3 : tie.Need-returns-3
 unfolding answerSaying answerHere
-returns-3 c = c .no-saying2 .ensures ∙ ap (λ (a : ItemAnswer). answerSaying a (c .before .before .before .before .before .args .run)) (sym (c .before .enum-told2 .given .1) ∙ ap (λ (r : Reading). r .answer) (c .before .before .before .read .ensures))
+returns-3 c = c .no-saying2 .ensures ∙ ap (λ (a : ItemAnswer). answerSaying a (c .before .before .before .before .before .args .run)) (sym (c .before .enum-told2 .given .1) ∙ ap (λ (r : Reading). r .answer) (c .before .before .before .item-from .ensures))
 
 returns-4 : tie.Need-returns-4
 unfolding answerSaying answerHere
-returns-4 c = c .no-saying3 .ensures ∙ ap (λ (a : ItemAnswer). answerSaying a (c .before .before .before .before .before .args .run)) (sym (c .before .enum-told3 .given .1) ∙ ap (λ (r : Reading). r .answer) (c .before .before .before .read .ensures))
+returns-4 c = c .no-saying3 .ensures ∙ ap (λ (a : ItemAnswer). answerSaying a (c .before .before .before .before .before .args .run)) (sym (c .before .enum-told3 .given .1) ∙ ap (λ (r : Reading). r .answer) (c .before .before .before .item-from .ensures))
 
 pub answer-saying-spec : {M : Type 1} → statement M
 answer-saying-spec =
     tie.close
     (tie.spec
-    read-requires
+    item-from-requires
     enum-told
     no-saying-requires
     enum-known-answer
