@@ -2,3 +2,4 @@ pub mod Apart
 pub mod Stands
 pub mod Model
 pub mod Night
+pub mod Held
