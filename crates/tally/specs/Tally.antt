@@ -4,7 +4,7 @@ use mathlib.Core.Bool.{Bool, cond, true, false}
 use mathlib.Core.List.{List}
 use lib.Dec.{ltb, leb}
 use lib.ListN.{getD, set, replicate}
-use Rattle.lists.specs.Loops.{some, inOrder}
+use Rattle.lists.specs.Loops.{some, iterate, inOrder}
 use Rattle.words.specs.Words.{has}
 use Rattle.plan.specs.Plan.{nodePlaces}
 use Rattle.usernode.specs.declared.Node.{Node}
@@ -78,6 +78,14 @@ stepTally nodes events count locks tally =
       grants = eventsTally events (min count nodePlaces) tally .grants;
       failed = eventsTally events (min count nodePlaces) tally .failed;
     }
+
+-- no event at any node
+abbrev pub noEvents : List Happening
+noEvents = replicate nodePlaces quiet
+
+-- what is counted after so many steps without an event: who holds what stays as it is
+unfoldable pub silentTally : List Node → ℕ → ℕ → ℕ → Tally → Tally
+silentTally nodes count locks steps tally = iterate (stepTally nodes noEvents count locks) steps tally
 
 -- the sum over the first locks, at most the top
 unfoldable pub addUp : List ℕ → ℕ → ℕ → ℕ

@@ -1,8 +1,9 @@
 // What a run counts for each lock: busy steps, grants and N events; and their sums.
 ghost use mathlib.Core.Path.{_≡_};
 ghost use Prim.Native.Nat.{ℕ, _+_, _-_, _^_, _≤_, _<_, min};
+ghost use Rattle.lists.specs.Loops.{iterate};
 ghost use Rattle.words.specs.Words.{has};
-ghost use Rattle.tally.specs.Tally.{emptyTally, more, counted, busy, busyCounts, isCounted, eventTally, eventsTally, stepTally, sumOf};
+ghost use Rattle.tally.specs.Tally.{emptyTally, more, counted, busy, busyCounts, isCounted, eventTally, eventsTally, stepTally, silentTally, sumOf};
 use plan::NODES;
 use ring::Happening;
 use turns::Event;
@@ -30,14 +31,22 @@ pub fn empty_tally() -> Tally
     }
 }
 
-// One more; a count at its top stays there.
-fn more(count: u64) -> u64
-    ensures { λ r. ⌜ r ≡ more count ⌝ }
+// A sum, at most the top.
+fn capped_sum(a: u64, b: u64) -> u64
+    ensures { λ r. ⌜ r ≡ min (a + b) (2 ^ 64 - 1) ⌝ }
 {
-    if count < 18446744073709551615 {
-        return count + 1;
+    let room = 18446744073709551615 - a;
+    if b <= room {
+        return a + b;
     }
-    count
+    18446744073709551615
+}
+
+// So many more; a count at its top stays there.
+fn more(count: u64, times: u64) -> u64
+    ensures { λ r. ⌜ r ≡ iterate more times count ⌝ }
+{
+    capped_sum(count, times)
 }
 
 // One more of a lock.
@@ -46,7 +55,7 @@ fn counted(counts: [u64; LOCKS], lock: u8) -> [u64; LOCKS]
 {
     if lock < 64 {
         let mut next = counts;
-        next[lock as usize] = more(counts[lock as usize]);
+        next[lock as usize] = more(counts[lock as usize], 1);
         return next;
     }
     counts
@@ -77,22 +86,23 @@ fn held_by_some(nodes: [Node; NODES], count: usize) -> u64
     word
 }
 
-// One more for each busy lock of the first locks.
+// So many steps more for each busy lock of the first locks.
 fn busy_counts(
     nodes: [Node; NODES],
     count: usize,
     locks: usize,
+    steps: u64,
     counts: [u64; LOCKS],
 ) -> [u64; LOCKS]
     requires { ⌜ (count ≤ 64) × (locks ≤ 64) ⌝ }
-    ensures { λ r. ⌜ r ≡ busyCounts nodes count locks counts ⌝ }
+    ensures { λ r. ⌜ r ≡ iterate (busyCounts nodes count locks) steps counts ⌝ }
 {
     let word = held_by_some(nodes, count);
     let mut next = counts;
     let mut lock: usize = 0;
     while lock < locks {
         if words::has(word, lock as u8) {
-            next[lock] = more(next[lock]);
+            next[lock] = more(next[lock], steps);
             lock += 1;
         } else {
             lock += 1;
@@ -173,7 +183,7 @@ pub fn step_tally(
     let those = at_most_64(count);
     let told = events_tally(events, those, tally);
     let counts = tally.busy;
-    let busy = busy_counts(nodes, those, at_most_64(locks), counts);
+    let busy = busy_counts(nodes, those, at_most_64(locks), 1, counts);
     let grants = told.grants;
     let failed = told.failed;
     Tally {
@@ -183,15 +193,25 @@ pub fn step_tally(
     }
 }
 
-// A sum, at most the top.
-fn capped_sum(a: u64, b: u64) -> u64
-    ensures { λ r. ⌜ r ≡ min (a + b) (2 ^ 64 - 1) ⌝ }
+// What is counted after so many steps without an event: who holds what stays as it is.
+pub fn silent_tally(nodes: [Node; NODES], count: u8, locks: u8, steps: u16, tally: Tally) -> Tally
+    ensures { λ r. ⌜ r ≡ silentTally nodes count locks steps tally ⌝ }
 {
-    let room = 18446744073709551615 - a;
-    if b <= room {
-        return a + b;
+    let counts = tally.busy;
+    let busy = busy_counts(
+        nodes,
+        at_most_64(count),
+        at_most_64(locks),
+        steps as u64,
+        counts,
+    );
+    let grants = tally.grants;
+    let failed = tally.failed;
+    Tally {
+        busy: busy,
+        grants: grants,
+        failed: failed,
     }
-    18446744073709551615
 }
 
 // The sum of the first locks' counts, at most the top.

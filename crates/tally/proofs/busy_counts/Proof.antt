@@ -11,11 +11,11 @@ use Rattle.tally.proofs.busy_counts.Statement.{statement}
 use Rattle.tally.proofs.busy_counts.Tie as tie
 
 abbrev Inv-loop : tie.InvT-loop
-Inv-loop count locks word next₀ lock₀ next lock =
-    (lock ≤ locks) × (locks ≤ 64) × (next ≡ inOrder (wordLock word) lock next₀)
+Inv-loop count locks steps word next₀ lock₀ next lock =
+    (lock ≤ locks) × (locks ≤ 64) × (next ≡ inOrder (wordLock word steps) lock next₀)
 
 abbrev μ-loop : tie.MeasureT-loop
-μ-loop count locks word next₀ lock₀ next lock = locks - lock
+μ-loop count locks steps word next₀ lock₀ next lock = locks - lock
 
 held-by-some-requires : tie.Need-held-by-some-requires Inv-loop μ-loop
 held-by-some-requires c κs = search needs
@@ -52,7 +52,7 @@ loop-less c = search needs
 
 loop-again : tie.Need-loop-again Inv-loop μ-loop
 unfolding counted
-loop-again c = (search needs, search needs, word-more _ _ _ _ _ (c .before .before .before .before .loop .inv .2) (simp (c .more .ensures, ← c .before .before .has .ensures, c .before .if1 .taken)))
+loop-again c = (search needs, search needs, word-more _ _ _ _ _ _ (c .before .before .before .before .loop .inv .2) (simp (c .more .ensures, ← c .before .before .has .ensures, c .before .if1 .taken)))
 
 add-lock-2 : tie.Need-add-lock-2 Inv-loop μ-loop
 add-lock-2 c = search needs
@@ -61,14 +61,14 @@ loop-less-2 : tie.Need-loop-less-2 Inv-loop μ-loop
 loop-less-2 c = search needs
 
 loop-again-2 : tie.Need-loop-again-2 Inv-loop μ-loop
-loop-again-2 c = (search needs, search needs, word-more _ _ _ _ _ (c .before .before .before .loop .inv .2) (simp (← c .before .has .ensures, c .if1 .left)))
+loop-again-2 c = (search needs, search needs, word-more _ _ _ _ _ _ (c .before .before .before .loop .inv .2) (simp (← c .before .has .ensures, c .if1 .left)))
 
 returns : tie.Need-returns Inv-loop μ-loop
 returns c =
     let done : c .before .loop .lock ≡ c .before .before .before .args .locks = omega arith in
     c .before .loop .inv .2
-    ∙ ap (λ (n : ℕ). inOrder (wordLock (c .before .before .held-by-some .result)) n (c .before .before .before .args .counts)) done
-    ∙ word-busy _ _ _ (c .before .before .held-by-some .ensures) _ _
+    ∙ ap (λ (n : ℕ). inOrder (wordLock (c .before .before .held-by-some .result) (c .before .before .before .args .steps)) n (c .before .before .before .args .counts)) done
+    ∙ word-busy _ _ _ (c .before .before .held-by-some .ensures) _ _ _
 
 pub busy-counts-spec : {M : Type 1} → statement M
 busy-counts-spec =

@@ -3,6 +3,7 @@ use mathlib.Core.Path.{sym, _≡_}
 use native.Mathlib.Omega.{arith}
 use lib.ListN.{length}
 use lib.Seq.{set-out}
+use Rattle.lists.specs.Loops.{iterate}
 use Rattle.tally.specs.Tally.{counted}
 use borrow.Author.Needs.{needs}
 use Rattle.tally.proofs.counted.Statement.{statement}
@@ -24,7 +25,7 @@ array-write-next : tie.Need-array-write-next
 array-write-next c = search needs
 
 returns : tie.Need-returns
-unfolding counted
+unfolding counted iterate
 returns c = simp (c .more .ensures)
 
 returns-2 : tie.Need-returns-2

@@ -1,20 +1,17 @@
--- `tally::more` meets its contract. On each way to a return, the tests and calls on the way choose the case of the definition.
-use Rattle.tally.specs.Tally.{more}
-use borrow.Author.Tests.{le-ltb, lt-ltb}
+-- `tally::more` meets its contract: so many times one more is the capped sum.
+use Prim.Native.Nat.{_^_, _-_, _≤_}
+use mathlib.Core.Path.{_∙_, sym}
+use native.Mathlib.Omega.{arith}
 use borrow.Author.Needs.{needs}
+use Rattle.tally.proofs.Times.{more-times}
 use Rattle.tally.proofs.more.Statement.{statement}
 use Rattle.tally.proofs.more.Tie as tie
 
-add-result : tie.Need-add-result
-add-result c = search needs
+capped-sum-requires : tie.Need-capped-sum-requires
+capped-sum-requires c κs = search needs
 
 returns : tie.Need-returns
-unfolding more
-returns c = simp (lt-ltb _ _ (c .if1 .taken))
-
-returns-2 : tie.Need-returns-2
-unfolding more
-returns-2 c = simp (le-ltb _ _ (c .if1 .left))
+returns c = c .capped-sum .ensures ∙ sym (more-times _ _ (omega arith))
 
 pub more-spec : {M : Type 1} → statement M
-more-spec = tie.close (tie.spec add-result returns returns-2)
+more-spec = tie.close (tie.spec capped-sum-requires returns)

@@ -1,4 +1,5 @@
 -- `tally::step_tally` meets its contract. On each way to a return, the tests and calls on the way choose the case of the definition.
+use Rattle.lists.specs.Loops.{iterate}
 use Rattle.tally.specs.Tally.{stepTally}
 use borrow.Author.Needs.{needs}
 use Rattle.tally.proofs.step_tally.Statement.{statement}
@@ -17,7 +18,7 @@ busy-counts-requires : tie.Need-busy-counts-requires
 busy-counts-requires c κs = search needs
 
 returns : tie.Need-returns
-unfolding stepTally
+unfolding stepTally iterate
 returns c = simp (c .before .before .busy-counts .ensures, c .before .before .before .at-most-642 .ensures, c .before .before .before .before .before .events-tally .ensures, c .before .before .before .before .before .before .at-most-64 .ensures)
 
 pub step-tally-spec : {M : Type 1} → statement M
