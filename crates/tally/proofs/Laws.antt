@@ -74,12 +74,15 @@ none-tally events zero tally e = refl
 none-tally events (suc count) tally e =
     ap (λ (event : Event). eventTally event (eventsTally events count tally)) (e count (omega arith)) ∙ none-tally events count tally (λ place below. e place (omega arith))
 
+pub no-events : (place : ℕ) → place < 64 → getD noEvents place quiet .event ≡ Nothing
+unfolding quiet
+no-events place below = ap (λ (h : Happening). h .event) (getD-replicate 64 place quiet quiet below)
+
 -- so many steps without an event: the busy counts that many times larger, and nothing else
 pub silent-counts : (nodes : List Node) (count locks steps : ℕ) (tally : Tally) → silentTally nodes count locks steps tally
     ≡ record { busy = iterate (busyCounts nodes (min count 64) (min locks 64)) steps (tally .busy); grants = tally .grants; failed = tally .failed }
-unfolding silentTally iterate stepTally quiet
+unfolding silentTally iterate stepTally
 silent-counts nodes count locks zero tally = refl
 silent-counts nodes count locks (suc steps) tally =
-    let none : (t : Tally) → eventsTally noEvents (min count 64) t ≡ t =
-    λ t. none-tally noEvents (min count 64) t (λ place below. ap (λ (h : Happening). h .event) (getD-replicate 64 place quiet quiet (omega arith))) in
+    let none : (t : Tally) → eventsTally noEvents (min count 64) t ≡ t = λ t. none-tally noEvents (min count 64) t (λ place below. no-events place (omega arith)) in
     ap (stepTally nodes noEvents count locks) (silent-counts nodes count locks steps tally) ∙ simp none

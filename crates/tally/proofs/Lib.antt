@@ -1,2 +1,4 @@
 pub mod Laws
 pub mod Times
+pub mod Kept
+pub mod Silent

@@ -1,0 +1,117 @@
+-- Steps without an event: what is counted after such a step depends on the nodes before it alone, so that many of them can be
+-- counted at once.
+use Prim.Native.Nat.{ℕ, zero, suc, _+_, _<_, min}
+use mathlib.Core.Path.{_≡_, refl, _∙_, sym, ap, ap₂}
+use mathlib.Core.Bool.{Bool, true, false, cond, _||_}
+use mathlib.Core.List.{List}
+use native.Mathlib.Numerals.{add-one}
+use native.Mathlib.Omega.{arith}
+use lib.ListN.{getD, set}
+use Rattle.lists.specs.Loops.{every, some, iterate, inOrder}
+use Rattle.lists.proofs.Laws.{every-at}
+use Rattle.words.specs.Words.{has}
+use Rattle.plan.specs.Plan.{nodeCount}
+use Rattle.usernode.specs.declared.Node.{Node}
+use Rattle.turns.specs.declared.Event.{Event}
+use Rattle.turns.specs.declared.Event.the-variants.{Nothing, Granted, Failed, Lost, Back, Sent}
+use Rattle.ring.specs.declared.State.{State}
+use Rattle.ring.specs.declared.Happening.{Happening}
+use Rattle.ring.specs.State.{restNode}
+use Rattle.ring.specs.Walk.{quiet}
+use Rattle.ring.specs.Step.{stepping}
+use Rattle.ring.proofs.Laws.{nodes-most}
+use Rattle.tally.specs.declared.Tally.{Tally}
+use Rattle.tally.specs.Tally.{counted, busy, busyLock, busyCounts, eventsTally, stepTally, noEvents, silentTally}
+use Rattle.tally.proofs.Laws.{same-in-order, none-tally, no-events}
+use Rattle.tally.proofs.Kept.{step-keeps}
+
+-- what is done so many times, its first time first
+iterate-first : {A : Type 0} (f : A → A) (n : ℕ) (a : A) → iterate f (suc n) a ≡ iterate f n (f a)
+unfolding iterate
+iterate-first f zero a = refl
+iterate-first f (suc n) a = ap f (iterate-first f n a)
+
+-- so many times one of two things that do the same
+iterate-same : {A : Type 0} (f g : A → A) → ((a : A) → f a ≡ g a) → (n : ℕ) (a : A) → iterate f n a ≡ iterate g n a
+unfolding iterate
+iterate-same f g e zero a = refl
+iterate-same f g e (suc n) a = ap f (iterate-same f g e n a) ∙ e (iterate g n a)
+
+-- two tests that agree at each place below n
+some-same : (f g : ℕ → Bool) (n : ℕ) → ((k : ℕ) → k < n → f k ≡ g k) → some f n ≡ some g n
+unfolding some
+some-same f g zero e = refl
+some-same f g (suc n) e = ap₂ (λ (a b : Bool). a || b) (some-same f g n (λ k l. e k (omega arith))) (e n (omega arith))
+
+-- no event
+unfoldable pub eventless : Event → Bool
+eventless Nothing = true
+eventless (Granted lock) = false
+eventless (Failed lock) = false
+eventless (Lost lock) = false
+eventless (Back lock) = false
+eventless (Sent lock) = false
+
+-- a step in which no node has an event
+unfoldable pub stepSilent : State → Bool
+stepSilent state = every (λ place. eventless (getD (stepping state .events) place quiet .event)) (nodeCount (state .plan))
+
+eventless-nothing : (event : Event) → eventless event ≡ true → event ≡ Nothing
+unfolding eventless
+eventless-nothing Nothing e = refl
+eventless-nothing (Granted lock) e = cc
+eventless-nothing (Failed lock) e = cc
+eventless-nothing (Lost lock) e = cc
+eventless-nothing (Back lock) e = cc
+eventless-nothing (Sent lock) e = cc
+
+-- nodes that hold the same keep the same locks busy
+pub busy-same : (old new : List Node) (count lock : ℕ)
+    → ((place : ℕ) → place < count → getD new place restNode .held ≡ getD old place restNode .held)
+    → busy new count lock ≡ busy old count lock
+unfolding busy
+busy-same old new count lock e = some-same _ _ count (λ place below. ap (λ (word : ℕ). has word lock) (e place below))
+
+-- nodes that keep the same locks busy, and no event: the same is counted
+same-tally : (old new : List Node) (events : List Happening) (count locks : ℕ) (tally : Tally)
+    → ((lock : ℕ) → busy new (min count 64) lock ≡ busy old (min count 64) lock)
+    → ((place : ℕ) → place < min count 64 → getD events place quiet .event ≡ Nothing)
+    → stepTally new events count locks tally ≡ stepTally old noEvents count locks tally
+unfolding stepTally busyCounts busyLock
+same-tally old new events count locks tally b e =
+    let busies = same-in-order (busyLock new (min count 64)) (busyLock old (min count 64)) (λ lock counts. ap (λ (x : Bool). cond x (counted counts lock) counts) (b lock)) (min locks 64) (tally .busy) in
+    let told = none-tally events (min count 64) tally e ∙ sym (none-tally noEvents (min count 64) tally (λ place below. no-events place (omega arith))) in
+    λ i. record { busy = busies i; grants = told i .grants; failed = told i .failed }
+
+module _ (state : State) (silent : stepSilent state ≡ true) where
+  -- at each node of the plan there was no event
+  silent-place : (place : ℕ) → place < nodeCount (state .plan) → getD (stepping state .events) place quiet .event ≡ Nothing
+  unfolding stepSilent
+  silent-place place below = eventless-nothing _ (every-at _ (nodeCount (state .plan)) place silent below)
+
+  -- the same locks are busy after the step as before it
+  silent-busy : (lock : ℕ) → busy (stepping state .state .nodes) (min (nodeCount (state .plan)) 64) lock ≡ busy (state .nodes) (min (nodeCount (state .plan)) 64) lock
+  silent-busy lock =
+      busy-same (state .nodes) (stepping state .state .nodes) (min (nodeCount (state .plan)) 64) lock
+      (λ place below. step-keeps state place (omega arith) (silent-place place (omega arith)) .held)
+
+  -- a silent step is counted as one without an event over the nodes before it
+  pub silent-step : (locks : ℕ) (tally : Tally)
+      → stepTally (stepping state .state .nodes) (stepping state .events) (nodeCount (state .plan)) locks tally
+      ≡ stepTally (state .nodes) noEvents (nodeCount (state .plan)) locks tally
+  silent-step locks tally =
+      same-tally (state .nodes) (stepping state .state .nodes) (stepping state .events) (nodeCount (state .plan)) locks tally silent-busy (λ place below. silent-place place (omega arith))
+
+  -- a silent step and then n over the nodes after it are n + 1 over the nodes before it
+  pub silent-more : (locks n : ℕ) (tally : Tally)
+      → silentTally (state .nodes) (nodeCount (state .plan)) locks (n + 1) tally
+      ≡ silentTally (stepping state .state .nodes) (nodeCount (state .plan)) locks n
+      (stepTally (stepping state .state .nodes) (stepping state .events) (nodeCount (state .plan)) locks tally)
+  unfolding silentTally
+  silent-more locks n tally =
+      let before : Tally → Tally = stepTally (state .nodes) noEvents (nodeCount (state .plan)) locks in
+      let after : Tally → Tally = stepTally (stepping state .state .nodes) noEvents (nodeCount (state .plan)) locks in
+      ap (λ (k : ℕ). iterate before k tally) (add-one n)
+      ∙ iterate-first before n tally
+      ∙ ap (iterate before n) (sym (silent-step locks tally))
+      ∙ iterate-same before after (λ t. sym (same-tally (state .nodes) (stepping state .state .nodes) noEvents (nodeCount (state .plan)) locks t silent-busy (λ place below. no-events place (omega arith)))) n _
