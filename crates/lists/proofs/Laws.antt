@@ -1,6 +1,6 @@
--- Laws of the definitions in specs/Loops: none, one place more, and what holds of each place.
+-- Laws of the definitions in specs/Loops: none, one place more, what holds of each place, and where two of them are the same.
 use Prim.Native.Nat.{ℕ, zero, suc, _+_, _*_, _≤_, _<_}
-use mathlib.Core.Path.{_≡_, refl, _∙_, ap, sym}
+use mathlib.Core.Path.{_≡_, refl, _∙_, ap, ap₂, sym}
 use mathlib.Core.Bool.{Bool, true, false, _&&_, _||_, or-true, true≢false}
 use native.Mathlib.Numerals.{add-one}
 use mathlib.Core.Logic.{_⊎_, inl, inr, ⊎-elim}
@@ -56,6 +56,29 @@ inOrder-none f a = refl
 pub inOrder-more : {A : Type 0} (f : ℕ → A → A) (n : ℕ) (a : A) → inOrder f (n + 1) a ≡ f n (inOrder f n a)
 unfolding inOrder
 inOrder-more f n a = rw add-one
+
+-- what is done so many times, its first time first
+pub iterate-first : {A : Type 0} (f : A → A) (n : ℕ) (a : A) → iterate f (suc n) a ≡ iterate f n (f a)
+unfolding iterate
+iterate-first f zero a = refl
+iterate-first f (suc n) a = ap f (iterate-first f n a)
+
+-- two things that do the same, done so many times, or at each place in order
+pub iterate-same : {A : Type 0} (f g : A → A) → ((a : A) → f a ≡ g a) → (n : ℕ) (a : A) → iterate f n a ≡ iterate g n a
+unfolding iterate
+iterate-same f g e zero a = refl
+iterate-same f g e (suc n) a = ap f (iterate-same f g e n a) ∙ e (iterate g n a)
+
+pub inOrder-same : {A : Type 0} (f g : ℕ → A → A) → ((k : ℕ) (a : A) → f k a ≡ g k a) → (n : ℕ) (a : A) → inOrder f n a ≡ inOrder g n a
+unfolding inOrder
+inOrder-same f g e zero a = refl
+inOrder-same f g e (suc n) a = ap (f n) (inOrder-same f g e n a) ∙ e n (inOrder g n a)
+
+-- two tests that agree at each place below n
+pub some-same : (f g : ℕ → Bool) (n : ℕ) → ((k : ℕ) → k < n → f k ≡ g k) → some f n ≡ some g n
+unfolding some
+some-same f g zero e = refl
+some-same f g (suc n) e = ap₂ (λ (a b : Bool). a || b) (some-same f g n (λ k l. e k (omega arith))) (e n (omega arith))
 
 -- a place below n + 1 is below n, or n itself
 last-or-below : {k n : ℕ} → k < suc n → (k < n) ⊎ (k ≡ n)

@@ -8,7 +8,7 @@ use lib.Dec.{T}
 use lib.Bits.{bitOr}
 use lib.ListN.{getD, getD-replicate}
 use Rattle.lists.specs.Loops.{iterate, inOrder}
-use Rattle.lists.proofs.Laws.{some-more, inOrder-more}
+use Rattle.lists.proofs.Laws.{some-more, inOrder-more, inOrder-same}
 use Rattle.words.specs.Words.{has}
 use Rattle.words.proofs.Sets.{has-or}
 use Rattle.usernode.specs.declared.Node.{Node}
@@ -42,18 +42,12 @@ pub word-more : (word steps lock : ℕ) (counts start next : List ℕ) → count
     → next ≡ inOrder (wordLock word steps) (lock + 1) start
 word-more word steps lock counts start next e n = n ∙ ap (wordLock word steps lock) e ∙ sym (inOrder-more (wordLock word steps) lock start)
 
--- done with two things that do the same, the same is done
-pub same-in-order : {A : Type 0} (f g : ℕ → A → A) → ((k : ℕ) (a : A) → f k a ≡ g k a) → (n : ℕ) (a : A) → inOrder f n a ≡ inOrder g n a
-unfolding inOrder
-same-in-order f g e zero a = refl
-same-in-order f g e (suc n) a = ap (f n) (same-in-order f g e n a) ∙ e n (inOrder g n a)
-
 -- a word that has what the nodes hold counts as they do, so many times
 pub word-busy : (nodes : List Node) (count word : ℕ) → ((lock : ℕ) → has word lock ≡ busy nodes count lock) → (locks steps : ℕ) (counts : List ℕ)
     → inOrder (wordLock word steps) locks counts ≡ iterate (busyCounts nodes count locks) steps counts
 unfolding busyCounts busyLock counted
 word-busy nodes count word e locks steps counts =
-    same-in-order (wordLock word steps) (atPlace (busy nodes count) (iterate more steps)) (λ lock counts. ap (λ (b : Bool). cond b (changed (iterate more steps) lock counts) counts) (e lock)) locks counts
+    inOrder-same (wordLock word steps) (atPlace (busy nodes count) (iterate more steps)) (λ lock counts. ap (λ (b : Bool). cond b (changed (iterate more steps) lock counts) counts) (e lock)) locks counts
     ∙ sym (all-times (busy nodes count) more locks steps counts)
 
 -- an event that is not counted changes nothing
@@ -74,6 +68,7 @@ none-tally events zero tally e = refl
 none-tally events (suc count) tally e =
     ap (λ (event : Event). eventTally event (eventsTally events count tally)) (e count (omega arith)) ∙ none-tally events count tally (λ place below. e place (omega arith))
 
+-- at no place of `noEvents` is there an event
 pub no-events : (place : ℕ) → place < 64 → getD noEvents place quiet .event ≡ Nothing
 unfolding quiet
 no-events place below = ap (λ (h : Happening). h .event) (getD-replicate 64 place quiet quiet below)

@@ -1,14 +1,14 @@
 -- Steps without an event: what is counted after such a step depends on the nodes before it alone, so that many of them can be
 -- counted at once.
-use Prim.Native.Nat.{ℕ, zero, suc, _+_, _<_, min}
-use mathlib.Core.Path.{_≡_, refl, _∙_, sym, ap, ap₂}
-use mathlib.Core.Bool.{Bool, true, false, cond, _||_}
+use Prim.Native.Nat.{ℕ, _+_, _<_, min}
+use mathlib.Core.Path.{_≡_, refl, _∙_, sym, ap}
+use mathlib.Core.Bool.{Bool, true, false, cond}
 use mathlib.Core.List.{List}
 use native.Mathlib.Numerals.{add-one}
 use native.Mathlib.Omega.{arith}
-use lib.ListN.{getD, set}
-use Rattle.lists.specs.Loops.{every, some, iterate, inOrder}
-use Rattle.lists.proofs.Laws.{every-at}
+use lib.ListN.{getD}
+use Rattle.lists.specs.Loops.{every, iterate}
+use Rattle.lists.proofs.Laws.{every-at, iterate-first, iterate-same, inOrder-same, some-same}
 use Rattle.words.specs.Words.{has}
 use Rattle.plan.specs.Plan.{nodeCount}
 use Rattle.usernode.specs.declared.Node.{Node}
@@ -19,29 +19,10 @@ use Rattle.ring.specs.declared.Happening.{Happening}
 use Rattle.ring.specs.State.{restNode}
 use Rattle.ring.specs.Walk.{quiet}
 use Rattle.ring.specs.Step.{stepping}
-use Rattle.ring.proofs.Laws.{nodes-most}
 use Rattle.tally.specs.declared.Tally.{Tally}
-use Rattle.tally.specs.Tally.{counted, busy, busyLock, busyCounts, eventsTally, stepTally, noEvents, silentTally}
-use Rattle.tally.proofs.Laws.{same-in-order, none-tally, no-events}
+use Rattle.tally.specs.Tally.{counted, busy, busyLock, busyCounts, stepTally, noEvents, silentTally}
+use Rattle.tally.proofs.Laws.{none-tally, no-events}
 use Rattle.tally.proofs.Kept.{step-keeps}
-
--- what is done so many times, its first time first
-iterate-first : {A : Type 0} (f : A → A) (n : ℕ) (a : A) → iterate f (suc n) a ≡ iterate f n (f a)
-unfolding iterate
-iterate-first f zero a = refl
-iterate-first f (suc n) a = ap f (iterate-first f n a)
-
--- so many times one of two things that do the same
-iterate-same : {A : Type 0} (f g : A → A) → ((a : A) → f a ≡ g a) → (n : ℕ) (a : A) → iterate f n a ≡ iterate g n a
-unfolding iterate
-iterate-same f g e zero a = refl
-iterate-same f g e (suc n) a = ap f (iterate-same f g e n a) ∙ e (iterate g n a)
-
--- two tests that agree at each place below n
-some-same : (f g : ℕ → Bool) (n : ℕ) → ((k : ℕ) → k < n → f k ≡ g k) → some f n ≡ some g n
-unfolding some
-some-same f g zero e = refl
-some-same f g (suc n) e = ap₂ (λ (a b : Bool). a || b) (some-same f g n (λ k l. e k (omega arith))) (e n (omega arith))
 
 -- no event
 unfoldable pub eventless : Event → Bool
@@ -52,10 +33,7 @@ eventless (Lost lock) = false
 eventless (Back lock) = false
 eventless (Sent lock) = false
 
--- a step in which no node has an event
-unfoldable pub stepSilent : State → Bool
-stepSilent state = every (λ place. eventless (getD (stepping state .events) place quiet .event)) (nodeCount (state .plan))
-
+-- which is Nothing
 eventless-nothing : (event : Event) → eventless event ≡ true → event ≡ Nothing
 unfolding eventless
 eventless-nothing Nothing e = refl
@@ -64,6 +42,10 @@ eventless-nothing (Failed lock) e = cc
 eventless-nothing (Lost lock) e = cc
 eventless-nothing (Back lock) e = cc
 eventless-nothing (Sent lock) e = cc
+
+-- a step in which no node has an event
+unfoldable pub stepSilent : State → Bool
+stepSilent state = every (λ place. eventless (getD (stepping state .events) place quiet .event)) (nodeCount (state .plan))
 
 -- nodes that hold the same keep the same locks busy
 pub busy-same : (old new : List Node) (count lock : ℕ)
@@ -79,15 +61,16 @@ same-tally : (old new : List Node) (events : List Happening) (count locks : ℕ)
     → stepTally new events count locks tally ≡ stepTally old noEvents count locks tally
 unfolding stepTally busyCounts busyLock
 same-tally old new events count locks tally b e =
-    let busies = same-in-order (busyLock new (min count 64)) (busyLock old (min count 64)) (λ lock counts. ap (λ (x : Bool). cond x (counted counts lock) counts) (b lock)) (min locks 64) (tally .busy) in
+    let busies = inOrder-same (busyLock new (min count 64)) (busyLock old (min count 64)) (λ lock counts. ap (λ (x : Bool). cond x (counted counts lock) counts) (b lock)) (min locks 64) (tally .busy) in
     let told = none-tally events (min count 64) tally e ∙ sym (none-tally noEvents (min count 64) tally (λ place below. no-events place (omega arith))) in
     λ i. record { busy = busies i; grants = told i .grants; failed = told i .failed }
 
-module _ (state : State) (silent : stepSilent state ≡ true) where
+-- a silent step
+module _ (state : State) (none : stepSilent state ≡ true) where
   -- at each node of the plan there was no event
-  silent-place : (place : ℕ) → place < nodeCount (state .plan) → getD (stepping state .events) place quiet .event ≡ Nothing
+  pub silent-place : (place : ℕ) → place < nodeCount (state .plan) → getD (stepping state .events) place quiet .event ≡ Nothing
   unfolding stepSilent
-  silent-place place below = eventless-nothing _ (every-at _ (nodeCount (state .plan)) place silent below)
+  silent-place place below = eventless-nothing _ (every-at _ (nodeCount (state .plan)) place none below)
 
   -- the same locks are busy after the step as before it
   silent-busy : (lock : ℕ) → busy (stepping state .state .nodes) (min (nodeCount (state .plan)) 64) lock ≡ busy (state .nodes) (min (nodeCount (state .plan)) 64) lock

@@ -9,6 +9,7 @@ use native.Mathlib.Omega.{arith}
 use lib.ListN.{getD, set, length, length-set}
 use lib.Seq.{getD-set-same, getD-set-other}
 use Rattle.lists.specs.Loops.{some, iterate}
+use Rattle.lists.proofs.Laws.{iterate-first}
 use Rattle.cars.specs.declared.Car.{Car}
 use Rattle.usernode.specs.declared.Node.{Node}
 use Rattle.turns.specs.declared.Turn.{Turn}
@@ -25,12 +26,6 @@ use Rattle.ring.specs.Walk.{quiet, nodeHere, junctionHere, turnHere, onNode, wa
 use Rattle.onelock.proofs.Line.Ring.{Line, end, user, junction, size, out, wanting, stepLine}
 use Rattle.onelock.proofs.Line.Meets.{Meets}
 use Rattle.onelock.proofs.State.AsLine.{usersFrom, strays}
-
--- what is done so many times, its first time first
-iterate-first : {A : Type 0} (f : A → A) (n : ℕ) (a : A) → iterate f (suc n) a ≡ iterate f n (f a)
-unfolding iterate
-iterate-first f zero a = refl
-iterate-first f (suc n) a = ap f (iterate-first f n a)
 
 -- a walk that went on from another: what is behind the other one is as it was, and the lists keep their places
 pub record Later (w v : Walk) : Type 0 where

@@ -1,5 +1,4 @@
 -- `tally::more` meets its contract: so many times one more is the capped sum.
-use Prim.Native.Nat.{_^_, _-_, _≤_}
 use mathlib.Core.Path.{_∙_, sym}
 use native.Mathlib.Omega.{arith}
 use borrow.Author.Needs.{needs}
