@@ -12,11 +12,12 @@ use Rattle.course.specs.Standing.{nodesOf, beginning, reachedNext, actionItem}
 use Rattle.course.specs.Whole.{tellingAll, manySteps, itemsFrom, onItems, onSteps, working}
 use Rattle.run.specs.Outcomes.{outcomeOf, fileCourse, fileOutcome}
 use Rattle.course.proofs.Moves.{AtItems, course-items, withNext}
-use Rattle.onelock.specs.OneLock.{Item, step, act, afterItem, afterAll, reached, history}
+use Rattle.onelock.specs.OneLock.{Item, step, act, afterItem, afterAll, reached, history, stepsAmong}
+use Rattle.onelock.proofs.Run.Parts.{reached-more}
 use Rattle.onelock.proofs.Theorems.{never-stuck}
-use Rattle.nightlock.specs.NightLock.{planIn, itemsIn, stepsAmong, at-first, by-step, by-action}
+use Rattle.nightlock.specs.NightLock.{planIn, itemsIn, at-first, by-step, by-action}
 use Rattle.nightlock.specs.Corollaries.{EveryStateIsReached, EveryLineStands, NoStepRefused, TheLinesAreTheHistory}
-use Rattle.nightlock.proofs.Items.{plan-in-range, step-reached, act-reached, reached-more}
+use Rattle.nightlock.proofs.Items.{plan-in-range, step-reached, act-reached}
 use Rattle.nightlock.proofs.Deeds.{deedsFrom, deeds-history, tells-none}
 use Rattle.nightlock.proofs.Courses.{At, at-same, standing, Goes, none, goes-same, goes-telling, goes-items}
 

@@ -27,10 +27,11 @@ use Rattle.course.specs.Wording.{eventHere, isEvent, eventLine, actionLine, loc
 use Rattle.course.specs.Whole.{Said, Course, says, silence, telling, tellingAll, closing, closingAll, manySteps, items}
 use Rattle.run.specs.Outcomes.{isCut}
 use Rattle.course.proofs.Moves.{withNext, step-nodes}
-use Rattle.onelock.specs.OneLock.{Item, step, act, afterItem, reached, Deed, deedOf, deedsOf, deedsIn}
+use Rattle.onelock.specs.OneLock.{Item, step, act, afterItem, reached, Deed, deedOf, deedsOf, deedsIn, doneAfter, stepsAmong}
 use Rattle.onelock.proofs.Run.Reached.{plan-reached}
-use Rattle.nightlock.specs.NightLock.{planIn, manySteps as itemSteps, asItems, itemsIn, stepsAmong, Stands, EachSaid, reports, reported}
-use Rattle.nightlock.proofs.Items.{step-reached, act-reached, reached-more, among-step, among-act}
+use Rattle.onelock.proofs.Run.Parts.{reached-more, among-more}
+use Rattle.nightlock.specs.NightLock.{planIn, manySteps as itemSteps, asItems, itemsIn, Stands, EachSaid, reports, reported}
+use Rattle.nightlock.proofs.Items.{step-reached, act-reached}
 use Rattle.nightlock.proofs.Deeds.{deedsFrom, tells, tells-all, event-reports, no-event, action-reports, lock-reports, last-reports}
 
 -- a run that has done these items, with those left
@@ -158,13 +159,13 @@ module _ {file : List ℕ} where
 module _ (file : List ℕ) (r : inRange (planIn file) ≡ true) where
   -- a step, and what it has done
   step-stands : {done left : List Item} (run : Run) → At file done (step ∷ left) run → At file (done ++ (step ∷ [])) left (oneStep run)
-  unfolding oneStep reachedNext afterItem
+  unfolding oneStep reachedNext afterItem doneAfter
   step-stands {done} {left} run a =
       record {
         split = a .split ∙ sym (append-snoc done step left);
         state = ap (λ (s : State). steppingSound s .state) (a .state) ∙ ap (λ (t : StepTold). t .state) (step-reached (planIn file) r done)
             ∙ sym (reached-more (planIn file) done step);
-        steps = ap (λ (n : ℕ). n + 1) (a .steps) ∙ add-one (stepsAmong done) ∙ sym (among-step done);
+        steps = ap (λ (n : ℕ). n + 1) (a .steps) ∙ add-one (stepsAmong done) ∙ sym (among-more done step);
       }
 
   -- its events are what it does
@@ -186,13 +187,13 @@ module _ (file : List ℕ) (r : inRange (planIn file) ≡ true) where
   -- an action, and what it has done
   act-stands : {done left : List Item} (action : Action) (node lock : ℕ) (run : Run) → At file done (act action node lock ∷ left) run
       → At file (done ++ (act action node lock ∷ [])) left (actionItem action node lock run)
-  unfolding actionItem afterItem
+  unfolding actionItem afterItem doneAfter
   act-stands {done} {left} action node lock run a =
       record {
         split = a .split ∙ sym (append-snoc done (act action node lock) left);
         state = ap (λ (s : State). actingSound action s node lock .state) (a .state) ∙ ap (λ (t : Told). t .state) (act-reached (planIn file) r done action node lock)
             ∙ sym (reached-more (planIn file) done (act action node lock));
-        steps = a .steps ∙ sym (among-act done action node lock);
+        steps = a .steps ∙ sym (among-more done (act action node lock));
       }
 
   -- and its line reports what it does

@@ -1,24 +1,22 @@
--- From the start of an accepted file's plan on, the run's own step and actions, which test less of a state, are those of demand 3's statement; and
--- what one item more does to what is reached.
-use Prim.Native.Nat.{ℕ, suc}
+-- From the start of an accepted file's plan on, the run's own step and actions, which test less of a state, are those of demand 3's statement.
+use Prim.Native.Nat.{ℕ}
 use mathlib.Core.Path.{_≡_, refl, _∙_, ap, sym}
 use mathlib.Core.Bool.{Bool, true, false, cond}
-use mathlib.Core.List.{List, [], _∷_, _++_}
+use mathlib.Core.List.{List}
 use native.Mathlib.Omega.{arith}
 use Rattle.plan.specs.declared.Plan.{Plan}
 use Rattle.plan.specs.Plan.{inRange}
 use Rattle.acts.specs.declared.Action.{Action}
 use Rattle.ring.specs.declared.State.{State}
-use Rattle.ring.specs.State.{startOf}
 use Rattle.ring.specs.Sound.{sound}
 use Rattle.ring.specs.Actions.{acting, actingSound}
 use Rattle.ring.specs.Step.{StepTold, refused, stepping, steppingSound}
 use Rattle.ring.proofs.Laws.{step-of-sound, act-of-sound}
 use Rattle.nightfile.specs.File.{fileNumber, planOf}
 use Rattle.nightfile.proofs.Laws.{accepted, plan-shown}
-use Rattle.onelock.specs.OneLock.{Item, step, act, afterItem, afterAll, reached}
+use Rattle.onelock.specs.OneLock.{Item, reached}
 use Rattle.onelock.proofs.Theorems.{never-stuck}
-use Rattle.nightlock.specs.NightLock.{planIn, stepsAmong}
+use Rattle.nightlock.specs.NightLock.{planIn}
 
 -- the plan of an accepted file is in range
 pub plan-in-range : (file : List ℕ) → fileNumber file ≡ 0 → inRange (planIn file) ≡ true
@@ -46,26 +44,3 @@ module _ (plan : Plan) (r : inRange plan ≡ true) (items : List Item) where
 
   pub act-reached : (action : Action) (node lock : ℕ) → actingSound action (reached plan items) node lock ≡ acting action (reached plan items) node lock
   act-reached action node lock = sym (act-of-sound action (reached plan items) node lock reached-sound)
-
--- a schedule and one item more
-after-more : (items : List Item) (item : Item) (s : State) → afterAll (items ++ (item ∷ [])) s ≡ afterItem item (afterAll items s)
-unfolding afterAll
-after-more [] item s = refl
-after-more (first ∷ items) item s = after-more items item (afterItem first s)
-
-pub reached-more : (plan : Plan) (items : List Item) (item : Item) → reached plan (items ++ (item ∷ [])) ≡ afterItem item (reached plan items)
-unfolding reached
-reached-more plan items item = after-more items item (startOf plan)
-
--- a step is one step more, an action none
-pub among-step : (items : List Item) → stepsAmong (items ++ (step ∷ [])) ≡ suc (stepsAmong items)
-unfolding stepsAmong
-among-step [] = refl
-among-step (step ∷ items) = ap suc (among-step items)
-among-step (act action node lock ∷ items) = among-step items
-
-pub among-act : (items : List Item) (action : Action) (node lock : ℕ) → stepsAmong (items ++ (act action node lock ∷ [])) ≡ stepsAmong items
-unfolding stepsAmong
-among-act [] action node lock = refl
-among-act (step ∷ items) action node lock = ap suc (among-act items action node lock)
-among-act (act other place own ∷ items) action node lock = among-act items action node lock

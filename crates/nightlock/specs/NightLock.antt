@@ -17,7 +17,7 @@ use Rattle.course.specs.declared.Run.{Run}
 use Rattle.course.specs.declared.Line.{Line}
 use Rattle.course.specs.Standing.{beginning, reachedNext, actionItem}
 use Rattle.course.specs.Whole.{Said, itemsFrom}
-use Rattle.onelock.specs.OneLock.{Item, step, act, reached, Deed, granted, ended, deedIf, Moment}
+use Rattle.onelock.specs.OneLock.{Item, step, act, reached, Deed, granted, ended, deedIf, Moment, stepsAmong}
 
 -- the plan of a file, and its items as a schedule: an item of so many steps is so many steps
 unfoldable pub planIn : List ℕ → Plan
@@ -39,12 +39,6 @@ itemsIn file = asItems (itemsFrom (schedulePart file) 0)
 unfoldable pub itemsOf : List ℕ → ℕ → ℕ → List FileItem
 itemsOf schedule k zero = []
 itemsOf schedule k (suc n) = itemOf schedule (3 * k) ∷ itemsOf schedule (suc k) n
-
--- how many of the items are steps
-unfoldable pub stepsAmong : List Item → ℕ
-stepsAmong [] = 0
-stepsAmong (step ∷ rest) = suc (stepsAmong rest)
-stepsAmong (act action node lock ∷ rest) = stepsAmong rest
 
 -- a run stands where a first part of its file's items has brought the start state of its file's plan
 pub record Stands (file : List ℕ) (run : Run) : Type 0 where

@@ -1,5 +1,6 @@
 -- Demand 3: "Take any accepted plan and any schedule from the start state, refused items among it, with nobody editing the state between calls."
-use Prim.Native.Nat.{ℕ, zero, suc, _+_}
+use Prim.Native.Nat.{ℕ, zero, suc, _+_, _*_}
+use mathlib.Core.Path.{_≡_}
 use mathlib.Core.Bool.{Bool, true, false, cond, not, _&&_}
 use mathlib.Core.List.{List, [], _∷_, _++_}
 use lib.Dec.{eqb}
@@ -81,6 +82,11 @@ pub record Moment : Type 0 where
   pub time : Time
   pub deeds : List Deed
 
+-- the order of times: step n, between the steps n and n + 1, step n + 1
+unfoldable pub rank : Time → ℕ
+rank (inStep n) = 2 * n
+rank (afterStep n) = 2 * n + 1
+
 -- an item at a time: a step is the one after those that are done
 unfoldable pub timeOf : Item → ℕ → Time
 timeOf step done = inStep (suc done)
@@ -102,6 +108,36 @@ historyFrom lock (item ∷ items) done state =
 
 unfoldable pub history : Plan → List Item → ℕ → List Moment
 history plan items lock = historyFrom lock items 0 (startOf plan)
+
+-- how many of the items are steps
+unfoldable pub stepsAmong : List Item → ℕ
+stepsAmong [] = 0
+stepsAmong (step ∷ rest) = suc (stepsAmong rest)
+stepsAmong (act action node lock ∷ rest) = stepsAmong rest
+
+-- deeds in the step of this number: that step is in the schedule, and the deeds are what its events say of the lock
+pub record FromStep (plan : Plan) (items : List Item) (lock number : ℕ) (deeds : List Deed) : Type 0 where
+  pub before : List Item
+  pub left : List Item
+  pub split : items ≡ before ++ (step ∷ left)
+  pub count : number ≡ suc (stepsAmong before)
+  pub said : deeds ≡ deedsIn (plan .rules) lock (stepping (reached plan before) .events) (nodeCount plan)
+
+-- deeds after so many steps: there a node's release of the lock is in the schedule, under ring rules, it is accepted, and the one deed is its ending
+pub record FromRelease (plan : Plan) (items : List Item) (lock number : ℕ) (deeds : List Deed) : Type 0 where
+  pub node : ℕ
+  pub before : List Item
+  pub left : List Item
+  pub split : items ≡ before ++ (act Release node lock ∷ left)
+  pub count : number ≡ stepsAmong before
+  pub ring : multiring (plan .rules) ≡ false
+  pub accepted : acting Release (reached plan before) node lock .number ≡ 0
+  pub ending : deeds ≡ ended node ∷ []
+
+-- by the time, where in the schedule a moment's deeds come from
+abbrev pub ComesFrom : Plan → List Item → ℕ → Time → List Deed → Type 0
+ComesFrom plan items lock (inStep number) deeds = FromStep plan items lock number deeds
+ComesFrom plan items lock (afterStep number) deeds = FromRelease plan items lock number deeds
 
 -- one plain lock: "granted only while free, ended only by its holder"; anything else is not what a plain lock could give
 pub data Lock : Type 0 where

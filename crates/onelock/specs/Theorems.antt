@@ -1,8 +1,8 @@
 -- Demand 3 as sentences: what proofs/ proves of every accepted plan and every schedule. The words are those of OneLock.
-use Prim.Native.Nat.{ℕ, _+_, _≤_, _<_}
+use Prim.Native.Nat.{ℕ, suc, _+_, _≤_, _<_}
 use mathlib.Core.Path.{_≡_}
 use mathlib.Core.Bool.{true, false}
-use mathlib.Core.List.{List}
+use mathlib.Core.List.{List, [], _∷_, _++_}
 use lib.ListN.{length}
 use Rattle.words.specs.Words.{has}
 use Rattle.cars.specs.Cars.{isNode}
@@ -13,7 +13,8 @@ use Rattle.acts.specs.declared.Action.{Action}
 use Rattle.ring.specs.State.{nodeOf}
 use Rattle.ring.specs.Actions.{acting}
 use Rattle.ring.specs.Step.{stepping}
-use Rattle.onelock.specs.OneLock.{Item, reached, deedsOf, history, heldBy, plain, isBroken, junctionAt, subringHas}
+use Rattle.onelock.specs.OneLock.{Item, step, act, reached, deedsOf, inStep, afterStep, Moment, rank, noted, history, stepsAmong, ComesFrom}
+use Rattle.onelock.specs.OneLock.{heldBy, plain, isBroken, junctionAt, subringHas}
 
 -- A. "For each lock, its grants and endings in order of time, two of one step in one of their two orders, are what one plain lock
 -- could give"
@@ -24,6 +25,32 @@ OnePlainLock = (plan : Plan) → inRange plan ≡ true → (items : List Item) (
 abbrev pub OneDeedAtATime : Type 0
 OneDeedAtATime =
     (plan : Plan) → inRange plan ≡ true → (items : List Item) (item : Item) (lock : ℕ) → length (deedsOf lock item (reached plan items)) ≤ 1
+
+-- A, "in order of time": every moment of a history is later than every one before it
+abbrev pub TimesAscend : Type 0
+TimesAscend =
+    (plan : Plan) → inRange plan ≡ true → (items : List Item) (lock : ℕ) (earlier between later : List Moment) (moment next : Moment)
+    → history plan items lock ≡ earlier ++ (moment ∷ between ++ (next ∷ later)) → rank (moment .time) < rank (next .time)
+
+-- A, at what time: one step more adds to a history what it does to the lock, at the step's own number
+abbrev pub StepsAtTheirNumber : Type 0
+StepsAtTheirNumber =
+    (plan : Plan) (items : List Item) (lock : ℕ)
+    → history plan (items ++ (step ∷ [])) lock ≡ history plan items lock ++ noted (inStep (suc (stepsAmong items))) (deedsOf lock step (reached plan items)) []
+
+-- one action more adds what it does to the lock, after the steps that are done
+abbrev pub ActionsBetweenSteps : Type 0
+ActionsBetweenSteps =
+    (plan : Plan) (items : List Item) (action : Action) (node own lock : ℕ)
+    → history plan (items ++ (act action node own ∷ [])) lock
+    ≡ history plan items lock ++ noted (afterStep (stepsAmong items)) (deedsOf lock (act action node own) (reached plan items)) []
+
+-- A, what at which time: a moment in a step is what the events of that step of the schedule say of the lock; a moment between two steps is one ending,
+-- by a release that is accepted there, under ring rules
+abbrev pub DeedsHaveTheirTime : Type 0
+DeedsHaveTheirTime =
+    (plan : Plan) → inRange plan ≡ true → (items : List Item) (lock : ℕ) (earlier later : List Moment) (moment : Moment)
+    → history plan items lock ≡ earlier ++ (moment ∷ later) → ComesFrom plan items lock (moment .time) (moment .deeds)
 
 -- B. "whenever a junction is not in a local tour, its lock word has exactly the locks that some node of its subring holds or is letting go"
 abbrev pub TrueWords : Type 0
