@@ -12,13 +12,13 @@ use Rattle.course.specs.Standing.{nodesOf, beginning, reachedNext, actionItem}
 use Rattle.course.specs.Whole.{tellingAll, manySteps, itemsFrom, onItems, onSteps, working}
 use Rattle.run.specs.Outcomes.{outcomeOf, fileCourse, fileOutcome}
 use Rattle.course.proofs.Moves.{AtItems, course-items, withNext}
-use Rattle.onelock.specs.OneLock.{Item, step, act, afterItem, afterAll, reached, history, stepsAmong}
+use Rattle.onelock.specs.OneLock.{Item, step, act, afterItem, afterAll, reached, inStep, historyFrom, history, stepsAmong}
 use Rattle.onelock.proofs.Run.Parts.{reached-more}
 use Rattle.onelock.proofs.Theorems.{never-stuck}
 use Rattle.nightlock.specs.NightLock.{planIn, itemsIn, at-first, by-step, by-action}
 use Rattle.nightlock.specs.Corollaries.{EveryStateIsReached, EveryLineStands, NoStepRefused, TheLinesAreTheHistory}
 use Rattle.nightlock.proofs.Items.{plan-in-range, step-reached, act-reached}
-use Rattle.nightlock.proofs.Deeds.{deedsFrom, deeds-history, tells-none}
+use Rattle.nightlock.proofs.Deeds.{apart, tells-none}
 use Rattle.nightlock.proofs.Courses.{At, at-same, standing, Goes, none, goes-same, goes-telling, goes-items}
 
 -- the run of an accepted file begins at its items, with nothing done
@@ -32,14 +32,14 @@ begins file e = record { split = refl; state = rw (plan-in-range file e); steps 
 
 -- so much is known of its course: it has nothing to tell at first, and goes through its items
 file-goes : (ceiling : ℕ) (file : List ℕ) → fileNumber file ≡ 0 → Goes file none [] (fileCourse ceiling file)
-unfolding fileCourse working tellingAll onSteps onItems manySteps beginning itemsIn
+unfolding fileCourse working tellingAll onSteps onItems manySteps beginning itemsIn apart
 file-goes ceiling file e =
     let r = plan-in-range file e in
     let schedule = schedulePart file in
     let run = beginning file in
     let a = begins file e in
     subst (Goes file none []) (sym (course-items ceiling schedule run (begins-items file e)))
-    (goes-same _ none (λ lock. tells-none (planIn file .rules) lock nodePlaces 0 (nodesOf run - 0))
+    (goes-same _ none (λ lock. ap (apart (inStep 0)) (tells-none (planIn file .rules) lock nodePlaces 0 (nodesOf run - 0)))
     (goes-telling (nodesOf run - 0) run (onSteps ceiling schedule) a
     (λ next. goes-items file r ceiling (itemsFrom schedule 0) (withNext run next) (at-same _ refl a))))
 
@@ -77,13 +77,12 @@ no-step-refused file e items =
 
 -- from the start on, all that the course does is all that is done
 pub the-lines-are-the-history : TheLinesAreTheHistory
-unfolding fileOutcome outcomeOf history reached afterAll
+unfolding fileOutcome outcomeOf history reached afterAll stepsAmong
 the-lines-are-the-history ceiling file e =
     let g = file-goes ceiling file e in
     let plan = planIn file in
     record {
       stands = standing (g .way .ends);
       all = g .way .whole;
-      lines = λ lock. g .lines lock ∙ ap (λ (items : List Item). deedsFrom lock items (startOf plan)) (sym (g .way .sum))
-          ∙ sym (deeds-history lock (g .way .all) 0 (startOf plan));
+      lines = λ lock. g .lines lock ∙ ap (λ (items : List Item). historyFrom lock items 0 (startOf plan)) (sym (g .way .sum));
     }

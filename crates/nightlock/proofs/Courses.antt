@@ -1,5 +1,5 @@
 -- What is known of a course of a run that stands where a first part of its file's items has brought it: every line stands at such a place, and
--- what the lines report of a lock is what the items do to it.
+-- what the lines report of a lock is the history of what the items do to it.
 use Prim.Native.Nat.{ℕ, zero, suc, _+_, _-_}
 use mathlib.Core.Path.{_≡_, refl, _∙_, ap, sym, subst}
 use mathlib.Core.Bool.{Bool, true, false, cond, true≢false}
@@ -27,12 +27,14 @@ use Rattle.course.specs.Wording.{eventHere, isEvent, eventLine, actionLine, loc
 use Rattle.course.specs.Whole.{Said, Course, says, silence, telling, tellingAll, closing, closingAll, manySteps, items}
 use Rattle.run.specs.Outcomes.{isCut}
 use Rattle.course.proofs.Moves.{withNext, step-nodes}
-use Rattle.onelock.specs.OneLock.{Item, step, act, afterItem, reached, Deed, deedOf, deedsOf, deedsIn, doneAfter, stepsAmong}
+use Rattle.onelock.specs.OneLock.{Item, step, act, afterItem, reached, Deed, deedOf, deedsOf, deedsIn, inStep, afterStep, Moment, timeOf, doneAfter, noted}
+use Rattle.onelock.specs.OneLock.{historyFrom, stepsAmong}
 use Rattle.onelock.proofs.Run.Reached.{plan-reached}
-use Rattle.onelock.proofs.Run.Parts.{reached-more, among-more}
+use Rattle.onelock.proofs.Run.Parts.{reached-more, among-more, noted-more}
+use Rattle.onelock.proofs.Theorems.{one-deed-at-a-time}
 use Rattle.nightlock.specs.NightLock.{planIn, manySteps as itemSteps, asItems, itemsIn, Stands, EachSaid, reports, reported}
 use Rattle.nightlock.proofs.Items.{step-reached, act-reached}
-use Rattle.nightlock.proofs.Deeds.{deedsFrom, tells, tells-all, event-reports, no-event, action-reports, lock-reports, last-reports}
+use Rattle.nightlock.proofs.Deeds.{apart, apart-more, apart-one, tells, tells-all, event-reports, no-event, action-reports, lock-reports, last-reports}
 
 -- a run that has done these items, with those left
 pub record At (file : List ℕ) (done left : List Item) (run : Run) : Type 0 where
@@ -61,19 +63,28 @@ pub record Onward (file : List ℕ) (done : List Item) (end : Run) : Type 0 wher
   pub ends : At file all left end
   pub whole : isCut (end .phase) ≡ false → left ≡ []
 
--- a course after these items: it reports of each lock what is still to be told, and then what the items do that it does more
-pub record Goes (file : List ℕ) (toTell : ℕ → List Deed) (done : List Item) (c : Course) : Type 0 where
+-- a course after these items: it reports of each lock what is still to be told, and then the history of the items that it does more
+pub record Goes (file : List ℕ) (toTell : ℕ → List Moment) (done : List Item) (c : Course) : Type 0 where
   pub way : Onward file done (c .end)
   pub each : EachSaid (BothStand file) (c .lines)
-  pub lines : (lock : ℕ) → reported (planIn file .rules) lock (c .lines) ≡ toTell lock ++ deedsFrom lock (way .more) (reached (planIn file) done)
+  pub lines : (lock : ℕ)
+      → reported (planIn file .rules) lock (c .lines) ≡ toTell lock ++ historyFrom lock (way .more) (stepsAmong done) (reached (planIn file) done)
+
+-- a node's event is to be told, in the last step done
+abbrev pub eventMoments : ℕ → Run → ℕ → List Moment
+eventMoments rules run lock = apart (inStep (run .reached .steps)) (deedOf rules lock (run .next + 1) (eventHere run))
+
+-- what an item does to a lock is to be told, at its time
+abbrev pub itemMoment : List ℕ → List Item → Item → ℕ → List Moment
+itemMoment file done item lock = noted (timeOf item (stepsAmong done)) (deedsOf lock item (reached (planIn file) done)) []
 
 -- nothing to tell
-abbrev pub none : ℕ → List Deed
+abbrev pub none : ℕ → List Moment
 none lock = []
 
 module _ {file : List ℕ} where
   -- a line more
-  goes-says : (first toTell : ℕ → List Deed) (line : Line) (before after : Run) {done : List Item} {c : Course} → Stands file before → Stands file after
+  goes-says : (first toTell : ℕ → List Moment) (line : Line) (before after : Run) {done : List Item} {c : Course} → Stands file before → Stands file after
       → ((lock : ℕ) → reports (planIn file .rules) lock line ≡ first lock) → Goes file toTell done c
       → Goes file (λ lock. first lock ++ toTell lock) done (says line before after c)
   unfolding says EachSaid reported
@@ -82,24 +93,24 @@ module _ {file : List ℕ} where
       record {
         way = g .way;
         each = ((b, a), g .each);
-        lines = λ lock. ap (λ (now : List Deed). now ++ reported rules lock (c .lines)) (e lock)
-            ∙ ap (λ (rest : List Deed). first lock ++ rest) (g .lines lock) ∙ sym (append-assoc (first lock) (toTell lock) _);
+        lines = λ lock. ap (λ (now : List Moment). now ++ reported rules lock (c .lines)) (e lock)
+            ∙ ap (λ (rest : List Moment). first lock ++ rest) (g .lines lock) ∙ sym (append-assoc (first lock) (toTell lock) _);
       }
 
   -- what is to be told, said in another way
-  pub goes-same : (toTell other : ℕ → List Deed) {done : List Item} {c : Course} → ((lock : ℕ) → toTell lock ≡ other lock)
+  pub goes-same : (toTell other : ℕ → List Moment) {done : List Item} {c : Course} → ((lock : ℕ) → toTell lock ≡ other lock)
       → Goes file toTell done c → Goes file other done c
   goes-same toTell other {done} e g =
       record {
         way = g .way;
         each = g .each;
-        lines = λ lock. g .lines lock ∙ ap (λ (first : List Deed). first ++ deedsFrom lock (g .way .more) (reached (planIn file) done)) (e lock);
+        lines = λ lock. g .lines lock
+            ∙ ap (λ (first : List Moment). first ++ historyFrom lock (g .way .more) (stepsAmong done) (reached (planIn file) done)) (e lock);
       }
 
   -- what was told is what an item did
-  goes-item : {done : List Item} {c : Course} (item : Item) → Goes file (λ lock. deedsOf lock item (reached (planIn file) done)) (done ++ (item ∷ [])) c
-      → Goes file none done c
-  unfolding deedsFrom
+  goes-item : {done : List Item} {c : Course} (item : Item) → Goes file (itemMoment file done item) (done ++ (item ∷ [])) c → Goes file none done c
+  unfolding historyFrom
   goes-item {done} item g =
       let w = g .way in
       record {
@@ -113,12 +124,15 @@ module _ {file : List ℕ} where
         };
         each = g .each;
         lines = λ lock. g .lines lock
-            ∙ ap (λ (s : State). deedsOf lock item (reached (planIn file) done) ++ deedsFrom lock (w .more) s) (reached-more (planIn file) done item);
+            ∙ ap (λ (n : ℕ). itemMoment file done item lock ++ historyFrom lock (w .more) n (reached (planIn file) (done ++ (item ∷ [])))) (among-more done item)
+            ∙ ap (λ (s : State). itemMoment file done item lock ++ historyFrom lock (w .more) (doneAfter item (stepsAmong done)) s)
+            (reached-more (planIn file) done item)
+            ∙ sym (noted-more (timeOf item (stepsAmong done)) (deedsOf lock item (reached (planIn file) done)) [] _);
       }
 
   -- all is said
   goes-silence : {done left : List Item} (run : Run) → At file done left run → (isCut (run .phase) ≡ false → left ≡ []) → Goes file none done (silence run)
-  unfolding silence EachSaid reported deedsFrom
+  unfolding silence EachSaid reported historyFrom
   goes-silence {done} {left} run a w =
       record {
         way = record { more = []; all = done; left = left; sum = sym (append-nil done); ends = a; whole = w };
@@ -137,24 +151,27 @@ module _ {file : List ℕ} where
       goes-says none none (lockLine run) run (past run) (standing a) (standing b) (λ lock. lock-reports _ lock run) (goes-closing n (past run) b w)
 
   -- a node's event, told or not
-  goes-event : (test : Bool) (toTell : ℕ → List Deed) {done left : List Item} (run : Run) {c : Course} → isEvent (eventHere run) ≡ test → At file done left run
-      → Goes file toTell done c
-      → Goes file (λ lock. deedOf (planIn file .rules) lock (run .next + 1) (eventHere run) ++ toTell lock) done (cond test (says (eventLine run) run (past run) c) c)
-  unfolding past
+  goes-event : (test : Bool) (toTell : ℕ → List Moment) {done left : List Item} (run : Run) {c : Course} → isEvent (eventHere run) ≡ test → At file done left run
+      → Goes file toTell done c → Goes file (λ lock. eventMoments (planIn file .rules) run lock ++ toTell lock) done (cond test (says (eventLine run) run (past run) c) c)
+  unfolding past apart
   goes-event true toTell run e a g =
-      goes-says (λ lock. deedOf (planIn file .rules) lock (run .next + 1) (eventHere run)) toTell (eventLine run) run (past run)
+      goes-says (eventMoments (planIn file .rules) run) toTell (eventLine run) run (past run)
       (standing a) (standing (at-same (past run) refl a)) (λ lock. event-reports _ lock run) g
   goes-event false toTell run e a g =
-      goes-same toTell _ (λ lock. ap (λ (deeds : List Deed). deeds ++ toTell lock) (sym (no-event _ lock (run .next + 1) (eventHere run) e))) g
+      goes-same toTell _ (λ lock. ap (λ (deeds : List Deed). apart (inStep (run .reached .steps)) deeds ++ toTell lock)
+      (sym (no-event _ lock (run .next + 1) (eventHere run) e))) g
 
   -- the events of so many nodes from the next on
   pub goes-telling : {done left : List Item} (n : ℕ) (run : Run) (then : Run → Course) → At file done left run
       → ((next : ℕ) → Goes file none done (then (withNext run next)))
-      → Goes file (λ lock. tells (planIn file .rules) lock (run .events) (run .next) n) done (telling n run then)
-  unfolding telling tells past eventHere
+      → Goes file (λ lock. apart (inStep (run .reached .steps)) (tells (planIn file .rules) lock (run .events) (run .next) n)) done (telling n run then)
+  unfolding telling tells past eventHere apart
   goes-telling zero run then a g = g (run .next)
   goes-telling (suc n) run then a g =
-      goes-event (isEvent (eventHere run)) _ run refl a (goes-telling n (past run) then (at-same (past run) refl a) g)
+      let rules = planIn file .rules in
+      goes-same _ _ (λ lock. sym (apart-more (inStep (run .reached .steps)) (deedOf rules lock (run .next + 1) (eventHere run))
+      (tells rules lock (run .events) (run .next + 1) n)))
+      (goes-event (isEvent (eventHere run)) _ run refl a (goes-telling n (past run) then (at-same (past run) refl a) g))
 
 module _ (file : List ℕ) (r : inRange (planIn file) ≡ true) where
   -- a step, and what it has done
@@ -169,10 +186,10 @@ module _ (file : List ℕ) (r : inRange (planIn file) ≡ true) where
       }
 
   -- its events are what it does
-  step-tells : {done left : List Item} (run : Run) → At file done (step ∷ left) run → (lock : ℕ)
+  step-deeds : {done left : List Item} (run : Run) → At file done (step ∷ left) run → (lock : ℕ)
       → tells (planIn file .rules) lock (oneStep run .events) 0 (nodesOf (oneStep run) - 0) ≡ deedsOf lock step (reached (planIn file) done)
   unfolding oneStep nodesOf deedsOf
-  step-tells {done} run a lock =
+  step-deeds {done} run a lock =
       let s = reached (planIn file) done in
       let now : List Happening = stepping s .events in
       let rules = planIn file .rules in
@@ -183,6 +200,16 @@ module _ (file : List ℕ) (r : inRange (planIn file) ≡ true) where
       ∙ ap (tells rules lock now 0) nodes
       ∙ tells-all rules lock now (nodeCount (s .plan))
       ∙ ap (λ (p : Plan). deedsIn (p .rules) lock now (nodeCount (s .plan))) (sym (plan-reached (planIn file) r done))
+
+  -- and they are told at its time: at most one of them is a deed of this lock
+  step-tells : {done left : List Item} (run : Run) → At file done (step ∷ left) run → (lock : ℕ)
+      → apart (inStep (oneStep run .reached .steps)) (tells (planIn file .rules) lock (oneStep run .events) 0 (nodesOf (oneStep run) - 0))
+      ≡ itemMoment file done step lock
+  unfolding timeOf doneAfter
+  step-tells {done} run a lock =
+      ap (apart (inStep (oneStep run .reached .steps))) (step-deeds run a lock)
+      ∙ ap (λ (n : ℕ). apart (inStep n) (deedsOf lock step (reached (planIn file) done))) (step-stands run a .steps ∙ among-more done step)
+      ∙ apart-one _ _ (one-deed-at-a-time (planIn file) r done step lock)
 
   -- an action, and what it has done
   act-stands : {done left : List Item} (action : Action) (node lock : ℕ) (run : Run) → At file done (act action node lock ∷ left) run
@@ -198,14 +225,16 @@ module _ (file : List ℕ) (r : inRange (planIn file) ≡ true) where
 
   -- and its line reports what it does
   act-tells : {done left : List Item} (action : Action) (node own : ℕ) (run : Run) → At file done (act action node own ∷ left) run → (lock : ℕ)
-      → reports (planIn file .rules) lock (actionLine action node own run) ≡ deedsOf lock (act action node own) (reached (planIn file) done)
+      → reports (planIn file .rules) lock (actionLine action node own run) ≡ itemMoment file done (act action node own) lock
+  unfolding timeOf
   act-tells {done} action node own run a lock =
       let same : run .reached .state .plan ≡ planIn file = ap (λ (t : State). t .plan) (a .state) ∙ plan-reached (planIn file) r done in
       let sound : actingSound action (run .reached .state) node own ≡ acting action (run .reached .state) node own =
       subst (λ (t : State). actingSound action t node own ≡ acting action t node own) (sym (a .state)) (act-reached (planIn file) r done action node own) in
       ap (λ (p : Plan). reports (p .rules) lock (actionLine action node own run)) (sym same)
       ∙ action-reports action node own lock run sound
-      ∙ ap (deedsOf lock (act action node own)) (a .state)
+      ∙ ap (λ (n : ℕ). noted (afterStep n) (deedsOf lock (act action node own) (run .reached .state)) []) (a .steps)
+      ∙ ap (λ (t : State). noted (afterStep (stepsAmong done)) (deedsOf lock (act action node own) t) []) (a .state)
 
   module _ (ceiling : ℕ) where
     -- a step and then the rest, or the end before it

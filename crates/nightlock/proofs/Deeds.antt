@@ -1,19 +1,18 @@
--- What the lines of a step and of an action report of a lock is what the step and the action do to it; the other lines report nothing.
-use Prim.Native.Nat.{ℕ, zero, suc, _+_}
+-- What the lines of a step and of an action report of a lock is what the step and the action do to it, at its time; the other lines report nothing.
+use Prim.Native.Nat.{ℕ, zero, suc, _+_, _≤_}
 use mathlib.Core.Path.{_≡_, refl, _∙_, ap, sym}
 use mathlib.Core.Bool.{Bool, true, false, cond, not, _&&_, and-true, and-false, true≢false}
 use mathlib.Core.List.{List, [], _∷_, _++_, append-nil, append-assoc}
 use native.Mathlib.Numerals.{add-one}
 use native.Mathlib.Omega.{arith}
 use lib.Dec.{eqb}
-use lib.ListN.{getD, replicate}
+use lib.ListN.{getD, length, replicate}
 use Rattle.cars.specs.Cars.{multiring}
 use Rattle.acts.specs.declared.Action.{Action}
 use Rattle.acts.specs.declared.Action.the-variants.{Take, Release, Force}
 use Rattle.turns.specs.declared.Event.{Event}
 use Rattle.turns.specs.declared.Event.the-variants.{Nothing, Granted, Failed, Lost, Back, Sent}
 use Rattle.turns.specs.Turn.{eventLetter, eventLock}
-use Rattle.ring.specs.declared.State.{State}
 use Rattle.ring.specs.declared.Happening.{Happening}
 use Rattle.ring.specs.State.{Told}
 use Rattle.ring.specs.Actions.{acting, actingSound}
@@ -22,27 +21,30 @@ use Rattle.course.specs.declared.Run.{Run}
 use Rattle.course.specs.declared.Phase.{Phase}
 use Rattle.course.specs.declared.Phase.the-variants.{Items, Ended, Cut, Refused}
 use Rattle.course.specs.Wording.{lineOf, eventHere, isEvent, eventLine, actionLetter, actionRefusal, actionLine, endLetter, lockLine, lastLine}
-use Rattle.onelock.specs.OneLock.{Item, act, afterItem, Deed, ended, deedIf, deedOf, deedsIn, deedsOf, releases, Time, Moment, timeOf, doneAfter, noted, historyFrom}
-use Rattle.nightlock.specs.NightLock.{reports, deedsOfAll}
+use Rattle.onelock.specs.OneLock.{act, Deed, granted, ended, deedIf, deedOf, deedsIn, deedsOf, releases, Time, inStep, afterStep, Moment, noted}
+use Rattle.nightlock.specs.NightLock.{deedsOfLine, timeOfLine, reports}
 
--- the deeds of a schedule from a state on, without their times
-unfoldable pub deedsFrom : ℕ → List Item → State → List Deed
-deedsFrom lock [] state = []
-deedsFrom lock (item ∷ items) state = deedsOf lock item state ++ deedsFrom lock items (afterItem item state)
+-- deeds of one time, each as a moment of its own
+unfoldable pub apart : Time → List Deed → List Moment
+apart time [] = []
+apart time (deed ∷ deeds) = record { time = time; deeds = deed ∷ [] } ∷ apart time deeds
 
--- a moment that is left out has no deed
-deeds-noted : (time : Time) (deeds : List Deed) (later : List Moment) → deedsOfAll (noted time deeds later) ≡ deeds ++ deedsOfAll later
-unfolding deedsOfAll noted
-deeds-noted time [] later = refl
-deeds-noted time (deed ∷ deeds) later = refl
+pub apart-more : (time : Time) (deeds more : List Deed) → apart time (deeds ++ more) ≡ apart time deeds ++ apart time more
+unfolding apart
+apart-more time [] more = refl
+apart-more time (deed ∷ deeds) more = ap (λ (rest : List Moment). record { time = time; deeds = deed ∷ [] } ∷ rest) (apart-more time deeds more)
 
--- they are those of the history
-pub deeds-history : (lock : ℕ) (items : List Item) (done : ℕ) (state : State) → deedsOfAll (historyFrom lock items done state) ≡ deedsFrom lock items state
-unfolding deedsOfAll historyFrom deedsFrom
-deeds-history lock [] done state = refl
-deeds-history lock (item ∷ items) done state =
-    deeds-noted (timeOf item done) (deedsOf lock item state) _
-    ∙ ap (λ (later : List Deed). deedsOf lock item state ++ later) (deeds-history lock items (doneAfter item done) (afterItem item state))
+-- where there is at most one, that is the moment
+pub apart-one : (time : Time) (deeds : List Deed) → length deeds ≤ 1 → apart time deeds ≡ noted time deeds []
+unfolding apart noted
+apart-one time [] one = refl
+apart-one time (deed ∷ []) one = refl
+apart-one time (deed ∷ other ∷ deeds) one = absurd (omega arith)
+
+apart-if : (time : Time) (test : Bool) (deed : Deed) → noted time (deedIf test deed) [] ≡ apart time (deedIf test deed)
+unfolding apart noted deedIf
+apart-if time true deed = refl
+apart-if time false deed = refl
 
 -- the deeds of so many nodes from a place on
 unfoldable pub tells : ℕ → ℕ → List Happening → ℕ → ℕ → List Deed
@@ -84,20 +86,22 @@ tells-none rules lock places next (suc n) =
     ap (λ (h : Happening). deedOf rules lock (next + 1) (h .event) ++ tells rules lock (replicate places quiet) (next + 1) n) (quiet-here places next)
     ∙ tells-none rules lock places (next + 1) n
 
--- an event's line reports its deed
-line-deed : (rules lock steps node : ℕ) (event : Event)
-    → reports rules lock (record { steps = steps; letter = eventLetter event; first = node; second = eventLock event }) ≡ deedOf rules lock node event
-unfolding reports deedOf eventLetter eventLock
-line-deed rules lock steps node Nothing = refl
-line-deed rules lock steps node (Granted own) = refl
-line-deed rules lock steps node (Failed own) = refl
-line-deed rules lock steps node (Lost own) = refl
-line-deed rules lock steps node (Back own) = refl
-line-deed rules lock steps node (Sent own) = refl
+-- an event's line reports its deed, in the step whose number it bears
+line-reports : (rules lock steps node : ℕ) (event : Event)
+    → reports rules lock (record { steps = steps; letter = eventLetter event; first = node; second = eventLock event })
+    ≡ apart (inStep steps) (deedOf rules lock node event)
+unfolding reports timeOfLine deedsOfLine noted deedOf eventLetter eventLock apart
+line-reports rules lock steps node Nothing = refl
+line-reports rules lock steps node (Granted own) = apart-if (inStep steps) (eqb own lock) (granted node)
+line-reports rules lock steps node (Failed own) = refl
+line-reports rules lock steps node (Lost own) = apart-if (inStep steps) (not (multiring rules) && eqb own lock) (ended node)
+line-reports rules lock steps node (Back own) = refl
+line-reports rules lock steps node (Sent own) = apart-if (inStep steps) (multiring rules && eqb own lock) (ended node)
 
-pub event-reports : (rules lock : ℕ) (run : Run) → reports rules lock (eventLine run) ≡ deedOf rules lock (run .next + 1) (eventHere run)
+pub event-reports : (rules lock : ℕ) (run : Run)
+    → reports rules lock (eventLine run) ≡ apart (inStep (run .reached .steps)) (deedOf rules lock (run .next + 1) (eventHere run))
 unfolding eventLine lineOf
-event-reports rules lock run = line-deed rules lock (run .reached .steps) (run .next + 1) (eventHere run)
+event-reports rules lock run = line-reports rules lock (run .reached .steps) (run .next + 1) (eventHere run)
 
 -- without a letter it is no grant and no ending
 pub no-event : (rules lock node : ℕ) (event : Event) → isEvent event ≡ false → deedOf rules lock node event ≡ []
@@ -109,42 +113,45 @@ no-event rules lock node (Lost own) e = absurd (true≢false e)
 no-event rules lock node (Back own) e = refl
 no-event rules lock node (Sent own) e = absurd (true≢false e)
 
--- an action's line reports an ending where it is an accepted release under ring rules
+-- an action's line reports an ending, after the steps done, where it is an accepted release under ring rules
 accepted-reports : (rules lock steps node own : ℕ) (action : Action)
     → reports rules lock (record { steps = steps; letter = actionLetter action; first = node; second = own })
-    ≡ deedIf (releases action && not (multiring rules) && eqb own lock) (ended node)
-unfolding reports actionLetter releases deedIf
+    ≡ noted (afterStep steps) (deedIf (releases action && not (multiring rules) && eqb own lock) (ended node)) []
+unfolding reports timeOfLine deedsOfLine noted actionLetter releases deedIf
 accepted-reports rules lock steps node own Take = refl
 accepted-reports rules lock steps node own Release = refl
 accepted-reports rules lock steps node own Force = refl
 
 act-line : (rules lock node own : ℕ) (action : Action) (run : Run) (taken : Bool) (number place : ℕ)
     → reports rules lock (cond taken (lineOf run (actionLetter action) node own) (lineOf run 88 number place))
-    ≡ deedIf (releases action && not (multiring rules) && eqb own lock && taken) (ended node)
-unfolding reports lineOf deedIf
+    ≡ noted (afterStep (run .reached .steps)) (deedIf (releases action && not (multiring rules) && eqb own lock && taken) (ended node)) []
+unfolding reports deedsOfLine noted lineOf deedIf
 act-line rules lock node own action run true number place =
     accepted-reports rules lock (run .reached .steps) node own action
-    ∙ ap (λ (test : Bool). deedIf test (ended node)) (sym (and-true (releases action && not (multiring rules) && eqb own lock)))
+    ∙ ap (λ (test : Bool). noted (afterStep (run .reached .steps)) (deedIf test (ended node)) [])
+    (sym (and-true (releases action && not (multiring rules) && eqb own lock)))
 act-line rules lock node own action run false number place =
-    ap (λ (test : Bool). deedIf test (ended node)) (sym (and-false (releases action && not (multiring rules) && eqb own lock)))
+    ap (λ (test : Bool). noted (afterStep (run .reached .steps)) (deedIf test (ended node)) [])
+    (sym (and-false (releases action && not (multiring rules) && eqb own lock)))
 
 pub action-reports : (action : Action) (node own lock : ℕ) (run : Run)
     → actingSound action (run .reached .state) node own ≡ acting action (run .reached .state) node own
-    → reports (run .reached .state .plan .rules) lock (actionLine action node own run) ≡ deedsOf lock (act action node own) (run .reached .state)
+    → reports (run .reached .state .plan .rules) lock (actionLine action node own run)
+    ≡ noted (afterStep (run .reached .steps)) (deedsOf lock (act action node own) (run .reached .state)) []
 unfolding actionLine actionRefusal deedsOf
 action-reports action node own lock run e =
     let rules = run .reached .state .plan .rules in
     act-line rules lock node own action run (eqb (actingSound action (run .reached .state) node own .number) 0) _ _
-    ∙ ap (λ (t : Told). deedIf (releases action && not (multiring rules) && eqb own lock && eqb (t .number) 0) (ended node)) e
+    ∙ ap (λ (t : Told). noted (afterStep (run .reached .steps)) (deedIf (releases action && not (multiring rules) && eqb own lock && eqb (t .number) 0) (ended node)) []) e
 
 -- a lock's line and the last line report nothing
 pub lock-reports : (rules lock : ℕ) (run : Run) → reports rules lock (lockLine run) ≡ []
-unfolding reports lockLine lineOf
+unfolding reports deedsOfLine noted lockLine lineOf
 lock-reports rules lock run = refl
 
 end-reports : (rules lock steps first second : ℕ) (phase : Phase)
     → reports rules lock (record { steps = steps; letter = endLetter phase; first = first; second = second }) ≡ []
-unfolding reports endLetter
+unfolding reports deedsOfLine noted endLetter
 end-reports rules lock steps first second Items = refl
 end-reports rules lock steps first second Ended = refl
 end-reports rules lock steps first second Cut = refl

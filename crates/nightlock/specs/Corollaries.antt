@@ -10,7 +10,7 @@ use Rattle.nightfile.specs.File.{fileNumber, schedulePart}
 use Rattle.course.specs.Whole.{itemsFrom}
 use Rattle.run.specs.Outcomes.{fileCourse, fileOutcome}
 use Rattle.onelock.specs.OneLock.{Item, reached, history}
-use Rattle.nightlock.specs.NightLock.{planIn, itemsOf, PassesThrough, IsReached, Stands, EachSaid, reported, deedsOfAll}
+use Rattle.nightlock.specs.NightLock.{planIn, itemsOf, PassesThrough, IsReached, Stands, EachSaid, reported}
 
 -- the items that a run goes by are all items of its schedule, also those whose steps are summed
 abbrev pub AllItems : Type 0
@@ -29,12 +29,12 @@ EveryLineStands =
 abbrev pub NoStepRefused : Type 0
 NoStepRefused = (file : List ℕ) → fileNumber file ≡ 0 → (items : List Item) → steppingSound (reached (planIn file) items) .number ≡ 0
 
--- the run ends where some first part of the items has brought it, all of them where it is not cut, and the grants and endings that its lines report
--- of a lock are the lock's history over these items
+-- the run ends where some first part of the items has brought it, all of them where it is not cut, and what its lines report of a lock, each grant and
+-- each ending at the time that its line says, is the lock's history over these items
 pub record Reported (ceiling : ℕ) (file : List ℕ) : Type 0 where
   pub stands : Stands file (fileCourse ceiling file .end)
   pub all : fileOutcome ceiling file .cut ≡ false → stands .left ≡ []
-  pub lines : (lock : ℕ) → reported (planIn file .rules) lock (fileCourse ceiling file .lines) ≡ deedsOfAll (history (planIn file) (stands .done) lock)
+  pub lines : (lock : ℕ) → reported (planIn file .rules) lock (fileCourse ceiling file .lines) ≡ history (planIn file) (stands .done) lock
 
 abbrev pub TheLinesAreTheHistory : Type 0
 TheLinesAreTheHistory = (ceiling : ℕ) (file : List ℕ) → fileNumber file ≡ 0 → Reported ceiling file

@@ -1,4 +1,5 @@
--- A night run seen as a schedule of demand 3: the items of its file, the state where it stands, and the grants and endings that its lines report.
+-- A night run seen as a schedule of demand 3: the items of its file, the state where it stands, and the grants and endings that its lines report,
+-- each at its time.
 use Prim.Native.Nat.{ℕ, zero, suc, _*_}
 use mathlib.Core.Path.{_≡_}
 use mathlib.Core.Bool.{cond, not, _&&_}
@@ -17,7 +18,7 @@ use Rattle.course.specs.declared.Run.{Run}
 use Rattle.course.specs.declared.Line.{Line}
 use Rattle.course.specs.Standing.{beginning, reachedNext, actionItem}
 use Rattle.course.specs.Whole.{Said, itemsFrom}
-use Rattle.onelock.specs.OneLock.{Item, step, act, reached, Deed, granted, ended, deedIf, Moment, stepsAmong}
+use Rattle.onelock.specs.OneLock.{Item, step, act, reached, Deed, granted, ended, deedIf, Time, inStep, afterStep, Moment, noted, stepsAmong}
 
 -- the plan of a file, and its items as a schedule: an item of so many steps is so many steps
 unfoldable pub planIn : List ℕ → Plan
@@ -66,19 +67,22 @@ unfoldable pub EachSaid : (Said → Type 0) → List Said → Type 0
 EachSaid P [] = Unit
 EachSaid P (said ∷ rest) = P said × EachSaid P rest
 
--- what a line reports of a lock: G is a grant; R and L are endings under ring rules, D is one under multiring rules
-unfoldable pub reports : ℕ → ℕ → Line → List Deed
-reports rules lock line =
+-- what a line says is done to a lock: G is a grant; R and L are endings under ring rules, D is one under multiring rules
+unfoldable pub deedsOfLine : ℕ → ℕ → Line → List Deed
+deedsOfLine rules lock line =
     cond (eqb (line .letter) 71) (deedIf (eqb (line .second) lock) (granted (line .first)))
     (cond (eqb (line .letter) 82) (deedIf (not (multiring rules) && eqb (line .second) lock) (ended (line .first)))
     (cond (eqb (line .letter) 76) (deedIf (not (multiring rules) && eqb (line .second) lock) (ended (line .first)))
     (cond (eqb (line .letter) 68) (deedIf (multiring rules && eqb (line .second) lock) (ended (line .first))) [])))
 
-unfoldable pub reported : ℕ → ℕ → List Said → List Deed
+-- and when: R stands between two steps, after those that the line says are done; an event stands in the step whose number its line bears
+unfoldable pub timeOfLine : Line → Time
+timeOfLine line = cond (eqb (line .letter) 82) (afterStep (line .steps)) (inStep (line .steps))
+
+-- the moment that a line reports of a lock, if it has one; and those of all lines, in their order
+unfoldable pub reports : ℕ → ℕ → Line → List Moment
+reports rules lock line = noted (timeOfLine line) (deedsOfLine rules lock line) []
+
+unfoldable pub reported : ℕ → ℕ → List Said → List Moment
 reported rules lock [] = []
 reported rules lock (said ∷ rest) = reports rules lock (said .line) ++ reported rules lock rest
-
--- the deeds of a history, in order
-unfoldable pub deedsOfAll : List Moment → List Deed
-deedsOfAll [] = []
-deedsOfAll (moment ∷ rest) = moment .deeds ++ deedsOfAll rest
