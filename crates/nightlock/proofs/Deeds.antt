@@ -86,6 +86,12 @@ tells-none rules lock places next (suc n) =
     ap (λ (h : Happening). deedOf rules lock (next + 1) (h .event) ++ tells rules lock (replicate places quiet) (next + 1) n) (quiet-here places next)
     ∙ tells-none rules lock places (next + 1) n
 
+-- a line says the steps that are done
+line-says : (run : Run) (letter first second : ℕ)
+    → lineOf run letter first second ≡ record { steps = run .reached .steps; letter = letter; first = first; second = second }
+unfolding lineOf
+line-says run letter first second = refl
+
 -- an event's line reports its deed, in the step whose number it bears
 line-reports : (rules lock steps node : ℕ) (event : Event)
     → reports rules lock (record { steps = steps; letter = eventLetter event; first = node; second = eventLock event })
@@ -100,8 +106,9 @@ line-reports rules lock steps node (Sent own) = apart-if (inStep steps) (multiri
 
 pub event-reports : (rules lock : ℕ) (run : Run)
     → reports rules lock (eventLine run) ≡ apart (inStep (run .reached .steps)) (deedOf rules lock (run .next + 1) (eventHere run))
-unfolding eventLine lineOf
-event-reports rules lock run = line-reports rules lock (run .reached .steps) (run .next + 1) (eventHere run)
+unfolding eventLine
+event-reports rules lock run =
+    ap (reports rules lock) (line-says run _ _ _) ∙ line-reports rules lock (run .reached .steps) (run .next + 1) (eventHere run)
 
 -- without a letter it is no grant and no ending
 pub no-event : (rules lock node : ℕ) (event : Event) → isEvent event ≡ false → deedOf rules lock node event ≡ []
@@ -127,7 +134,8 @@ act-line : (rules lock node own : ℕ) (action : Action) (run : Run) (taken : Bo
     ≡ noted (afterStep (run .reached .steps)) (deedIf (releases action && not (multiring rules) && eqb own lock && taken) (ended node)) []
 unfolding reports deedsOfLine noted lineOf deedIf
 act-line rules lock node own action run true number place =
-    accepted-reports rules lock (run .reached .steps) node own action
+    ap (reports rules lock) (line-says run (actionLetter action) node own)
+    ∙ accepted-reports rules lock (run .reached .steps) node own action
     ∙ ap (λ (test : Bool). noted (afterStep (run .reached .steps)) (deedIf test (ended node)) [])
     (sym (and-true (releases action && not (multiring rules) && eqb own lock)))
 act-line rules lock node own action run false number place =
@@ -159,4 +167,4 @@ end-reports rules lock steps first second (Refused number) = refl
 
 pub last-reports : (rules lock : ℕ) (run : Run) → reports rules lock (lastLine run) ≡ []
 unfolding lastLine lineOf
-last-reports rules lock run = end-reports rules lock (run .reached .steps) _ _ (run .phase)
+last-reports rules lock run = end-reports rules lock _ _ _ (run .phase)
