@@ -1,1 +1,2 @@
 pub mod Cars
+pub mod Kinds

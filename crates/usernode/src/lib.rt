@@ -26,7 +26,8 @@ pub struct Node {
     pub letting: u64,
 }
 
-// The nine rules, 9 first since that is what a node does that rests; each with what it needs of the car or the node.
+// The nine rules, 9 first since that is what a node does that rests, then 1 to 8 in their order (`ruleNumber`); each with what it needs
+// of the car or the node.
 pub enum Rule {
     Passes,
     SendsReqp(u8),

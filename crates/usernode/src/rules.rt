@@ -1,6 +1,7 @@
 // Which of the nine rules fits a node and the car that arrives: the first that fits.
 ghost use mathlib.Core.Path.{_≡_};
 ghost use Rattle.usernode.specs.Rules.{onLetting, onGap, onIdle, onReqp, onFailp, onDov, rule};
+ghost use Rattle.usernode.specs.Numbers.{ruleNumber, firstThatFits};
 use crate::Activity;
 use crate::Node;
 use crate::Rule;
@@ -85,9 +86,9 @@ impl Node {
         Rule::Passes
     }
 
-    // The first rule that fits.
+    // The first rule that fits; its number is 01's.
     pub fn rule(self, me: u8, arrival: Car) -> Rule
-        ensures { λ r. ⌜ r ≡ rule self me arrival ⌝ }
+        ensures { λ r. ⌜ (r ≡ rule self me arrival) × (ruleNumber r ≡ firstThatFits self me arrival) ⌝ }
     {
         match arrival {
             Car::Idle => self.on_idle(),

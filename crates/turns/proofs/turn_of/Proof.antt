@@ -15,7 +15,7 @@ event-of-requires c κs = search needs
 
 returns : tie.Need-returns
 unfolding turn
-returns c = simp (c .event-of .ensures, c .before .apply .ensures, c .before .before .rule .ensures)
+returns c = simp (c .event-of .ensures, c .before .apply .ensures, c .before .before .rule .ensures .0)
 
 pub turn-of-spec : {M : Type 1} → statement M
 turn-of-spec = tie.close (tie.spec rule-requires apply-requires event-of-requires returns)

@@ -1,5 +1,7 @@
--- `usernode::Node::rule` meets its contract. On each way to a return, the tests and calls on the way choose the case of the definition.
+-- `usernode::Node::rule` meets its contract. On each way to a return, the tests and calls on the way choose the case of the definition,
+-- and `numbered` has its number.
 use Rattle.usernode.specs.Rules.{rule}
+use Rattle.usernode.proofs.Numbers.{numbered}
 use borrow.Author.Needs.{needs}
 use Rattle.usernode.proofs.Node.rule.Statement.{statement}
 use Rattle.usernode.proofs.Node.rule.Tie as tie
@@ -42,35 +44,35 @@ enum-known-arrival-5 c = search needs
 
 returns : tie.Need-returns
 unfolding rule
-returns c = simp (c .on-idle .ensures, c .before .enum-told .given .1)
+returns c = numbered _ _ _ _ (simp (c .on-idle .ensures, c .before .enum-told .given .1))
 
 returns-2 : tie.Need-returns-2
 unfolding rule
-returns-2 c = simp (c .enum-told2 .given .1)
+returns-2 c = numbered _ _ _ _ (simp (c .enum-told2 .given .1))
 
 returns-3 : tie.Need-returns-3
 unfolding rule
-returns-3 c = simp (c .enum-told3 .given .1)
+returns-3 c = numbered _ _ _ _ (simp (c .enum-told3 .given .1))
 
 returns-4 : tie.Need-returns-4
 unfolding rule
-returns-4 c = simp (c .on-reqp .ensures, c .before .before .arrival .given .1)
+returns-4 c = numbered _ _ _ _ (simp (c .on-reqp .ensures, c .before .before .arrival .given .1))
 
 returns-5 : tie.Need-returns-5
 unfolding rule
-returns-5 c = simp (c .on-failp .ensures, c .before .before .arrival2 .given .1)
+returns-5 c = numbered _ _ _ _ (simp (c .on-failp .ensures, c .before .before .arrival2 .given .1))
 
 returns-6 : tie.Need-returns-6
 unfolding rule
-returns-6 c = simp (c .on-dov .ensures, c .before .before .arrival3 .given .1)
+returns-6 c = numbered _ _ _ _ (simp (c .on-dov .ensures, c .before .before .arrival3 .given .1))
 
 returns-7 : tie.Need-returns-7
 unfolding rule
-returns-7 c = simp (c .before .arrival4 .given .1)
+returns-7 c = numbered _ _ _ _ (simp (c .before .arrival4 .given .1))
 
 returns-8 : tie.Need-returns-8
 unfolding rule
-returns-8 c = simp (c .before .arrival5 .given .1)
+returns-8 c = numbered _ _ _ _ (simp (c .before .arrival5 .given .1))
 
 pub rule-spec : {M : Type 1} → statement M
 rule-spec =
