@@ -1,3 +1,5 @@
 pub mod Rules
+pub mod Letters
 pub mod Turn
 pub mod Sound
+pub mod Theorems

@@ -3,6 +3,7 @@ ghost use mathlib.Core.Path.{_≡_};
 ghost use Prim.Native.Nat.{_-_, _≤_, _<_};
 ghost use Rattle.lists.specs.Loops.{every};
 ghost use Rattle.zeronode.specs.Rules.{onToken, onHead, zeroRule, keeps};
+ghost use Rattle.zeronode.specs.Letters.{zeroLetter, zeroLetterOf};
 ghost use Rattle.zeronode.specs.Turn.{shifted, headOff, sends, appended, arrives, zeroTurn, countLeft, overflows};
 ghost use Rattle.zeronode.specs.Sound.{placeNames, zeroSound};
 use cars::Car;
@@ -104,9 +105,9 @@ fn less_one(count: u8) -> u8
 }
 
 impl ZeroNode {
-    // Which of (a), (b), (c) applies.
+    // Which of (a), (b), (c) applies; its letter is 01's.
     pub fn rule(self, arrival: Car) -> ZeroRule
-        ensures { λ r. ⌜ r ≡ zeroRule self arrival ⌝ }
+        ensures { λ r. ⌜ (r ≡ zeroRule self arrival) × (zeroLetter r ≡ zeroLetterOf self arrival) ⌝ }
     {
         let count = self.count;
         if count == 0 {

@@ -15,7 +15,7 @@ count-left-requires c κs = search needs
 
 returns : tie.Need-returns
 unfolding overflows
-returns c = simp (c .count-left .ensures, c .before .rule .ensures, c .before .before .if1 .taken, ← c .before .before .before .keeps .ensures)
+returns c = simp (c .count-left .ensures, c .before .rule .ensures .0, c .before .before .if1 .taken, ← c .before .before .before .keeps .ensures)
 
 returns-2 : tie.Need-returns-2
 unfolding overflows

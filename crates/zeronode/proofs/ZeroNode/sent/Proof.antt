@@ -16,25 +16,25 @@ enum-told-2 : tie.Need-enum-told-2
 enum-told-2 c = search needs
 
 head-off-requires : tie.Need-head-off-requires
-head-off-requires c κs = (token-from-queue _ _ (sym (c .before .before .rule .ensures) ∙ c .enum-told2 .given .1), c .before .before .before .before .pre)
+head-off-requires c κs = (token-from-queue _ _ (sym (c .before .before .rule .ensures .0) ∙ c .enum-told2 .given .1), c .before .before .before .before .pre)
 
 enum-known-rule : tie.Need-enum-known-rule
 enum-known-rule c = search needs
 
 head-off-requires-2 : tie.Need-head-off-requires-2
-head-off-requires-2 c κs = (head-from-queue _ _ _ (sym (c .before .before .before .rule .ensures) ∙ c .before .rule2 .given .1), c .before .before .before .before .before .pre)
+head-off-requires-2 c κs = (head-from-queue _ _ _ (sym (c .before .before .before .rule .ensures .0) ∙ c .before .rule2 .given .1), c .before .before .before .before .before .pre)
 
 returns : tie.Need-returns
 unfolding sends
-returns c = simp (← c .before .before .rule .ensures, c .enum-told .given .1)
+returns c = simp (← c .before .before .rule .ensures .0, c .enum-told .given .1)
 
 returns-2 : tie.Need-returns-2
 unfolding sends
-returns-2 c = simp (c .head-off .ensures, ← c .before .before .before .rule .ensures, c .before .enum-told2 .given .1)
+returns-2 c = simp (c .head-off .ensures, ← c .before .before .before .rule .ensures .0, c .before .enum-told2 .given .1)
 
 returns-3 : tie.Need-returns-3
 unfolding sends
-returns-3 c = simp (c .head-off2 .ensures, ← c .before .before .before .before .rule .ensures, c .before .before .rule2 .given .1)
+returns-3 c = simp (c .head-off2 .ensures, ← c .before .before .before .before .rule .ensures .0, c .before .before .rule2 .given .1)
 
 pub sent-spec : {M : Type 1} → statement M
 sent-spec =
