@@ -1,1 +1,3 @@
 pub mod Rules
+pub mod Sentences
+pub mod Theorems

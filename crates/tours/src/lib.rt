@@ -1,6 +1,7 @@
 // Which sentence of the junction's rules applies, outside a local tour and in one.
 ghost use mathlib.Core.Path.{_≡_};
 ghost use Rattle.tours.specs.Rules.{within, outside, ifTrain, onGotp, onDidv, inTour};
+ghost use Rattle.tours.specs.Sentences.{sentenceNumber, outsideSentence, tourSentence};
 use cars::Car;
 use cars::Notice;
 use cars::Tag;
@@ -31,7 +32,7 @@ pub fn within(low: u8, high: u8, node: u8) -> bool
 
 // Outside a tour, by the car that arrives on the main side.
 pub fn outside(word: u64, wants: bool, arrival: Car) -> JunctionRule
-    ensures { λ r. ⌜ r ≡ outside word wants arrival ⌝ }
+    ensures { λ r. ⌜ (r ≡ outside word wants arrival) × (sentenceNumber r ≡ outsideSentence word wants arrival) ⌝ }
 {
     match arrival {
         Car::Idle => JunctionRule::GoesOn,
@@ -87,7 +88,7 @@ fn on_didv(low: u8, high: u8, notice: Notice) -> JunctionRule
 
 // In a tour, by the car that comes out of the subring.
 pub fn in_tour(train: bool, low: u8, high: u8, out: Car) -> JunctionRule
-    ensures { λ r. ⌜ r ≡ inTour train low high out ⌝ }
+    ensures { λ r. ⌜ (r ≡ inTour train low high out) × (sentenceNumber r ≡ tourSentence train low high out) ⌝ }
 {
     match out {
         Car::Idle => if_train(train, JunctionRule::Ends),

@@ -1,5 +1,7 @@
--- `tours::in_tour` meets its contract. On each way to a return, the tests and calls on the way choose the case of the definition.
+-- `tours::in_tour` meets its contract. On each way to a return, the tests and calls on the way choose the case of the definition,
+-- and `said-in-tour` has its sentence.
 use Rattle.tours.specs.Rules.{inTour}
+use Rattle.tours.proofs.Sentences.{said-in-tour}
 use borrow.Author.Needs.{needs}
 use Rattle.tours.proofs.in_tour.Statement.{statement}
 use Rattle.tours.proofs.in_tour.Tie as tie
@@ -57,35 +59,35 @@ if-train-requires-7 c κs = search needs
 
 returns : tie.Need-returns
 unfolding inTour
-returns c = simp (c .if-train .ensures, c .before .enum-told .given .1)
+returns c = said-in-tour _ _ _ _ _ (simp (c .if-train .ensures, c .before .enum-told .given .1))
 
 returns-2 : tie.Need-returns-2
 unfolding inTour
-returns-2 c = simp (c .enum-told2 .given .1)
+returns-2 c = said-in-tour _ _ _ _ _ (simp (c .enum-told2 .given .1))
 
 returns-3 : tie.Need-returns-3
 unfolding inTour
-returns-3 c = simp (c .if-train2 .ensures, c .before .enum-told3 .given .1)
+returns-3 c = said-in-tour _ _ _ _ _ (simp (c .if-train2 .ensures, c .before .enum-told3 .given .1))
 
 returns-4 : tie.Need-returns-4
 unfolding inTour
-returns-4 c = simp (c .if-train3 .ensures, c .before .before .out .given .1)
+returns-4 c = said-in-tour _ _ _ _ _ (simp (c .if-train3 .ensures, c .before .before .out .given .1))
 
 returns-5 : tie.Need-returns-5
 unfolding inTour
-returns-5 c = simp (c .if-train4 .ensures, c .before .before .out2 .given .1)
+returns-5 c = said-in-tour _ _ _ _ _ (simp (c .if-train4 .ensures, c .before .before .out2 .given .1))
 
 returns-6 : tie.Need-returns-6
 unfolding inTour
-returns-6 c = simp (c .if-train5 .ensures, c .before .before .out3 .given .1)
+returns-6 c = said-in-tour _ _ _ _ _ (simp (c .if-train5 .ensures, c .before .before .out3 .given .1))
 
 returns-7 : tie.Need-returns-7
 unfolding inTour
-returns-7 c = simp (c .if-train6 .ensures, c .before .on-gotp .ensures, c .before .before .before .out4 .given .1)
+returns-7 c = said-in-tour _ _ _ _ _ (simp (c .if-train6 .ensures, c .before .on-gotp .ensures, c .before .before .before .out4 .given .1))
 
 returns-8 : tie.Need-returns-8
 unfolding inTour
-returns-8 c = simp (c .if-train7 .ensures, c .before .on-didv .ensures, c .before .before .before .out5 .given .1)
+returns-8 c = said-in-tour _ _ _ _ _ (simp (c .if-train7 .ensures, c .before .on-didv .ensures, c .before .before .before .out5 .given .1))
 
 pub in-tour-spec : {M : Type 1} → statement M
 in-tour-spec =
