@@ -8,12 +8,18 @@ use Rattle.cars.specs.declared.Car.the-variants.{Idle, Token, Null, Reqp, Failp
 use Rattle.tours.specs.declared.JunctionRule.{JunctionRule}
 use Rattle.tours.specs.declared.JunctionRule.the-variants.{GoesOn, FailsReqp, Begins, Drops, TokenOut, CarOut, SetsBit, ClearsBit, Ends}
 use Rattle.tours.specs.Rules.{outside, inTour}
+use Rattle.tours.specs.Sentences.{outsideSentence, tourSentence}
 use Rattle.junction.specs.declared.Junction.{Junction}
 
 -- by the subring's nodes, whether one of them wants a train, the arrival on the main side and the car out of the subring
 unfoldable pub junctionRule : ℕ → ℕ → Bool → Car → Car → Junction → JunctionRule
 junctionRule low high wants arrival out junction =
     cond (junction .tour) (inTour (junction .train) low high out) (outside (junction .word) wants arrival)
+
+-- the number of the sentence that applies
+unfoldable pub junctionSentence : ℕ → ℕ → Bool → Car → Car → Junction → ℕ
+junctionSentence low high wants arrival out junction =
+    cond (junction .tour) (tourSentence (junction .train) low high out) (outsideSentence (junction .word) wants arrival)
 
 -- "the arrival as it came goes to the subring as shadow, idle standing for a token"
 unfoldable pub shadow : Car → Car

@@ -1,6 +1,7 @@
 // One junction: what it is, what it does outside and in a local tour with the two cars that arrive, and what 13 says of it.
 ghost use mathlib.Core.Path.{_≡_};
-ghost use Rattle.junction.specs.Turn.{junctionRule, shadow, joins, junctionApply, junctionTurn};
+ghost use Rattle.tours.specs.Sentences.{sentenceNumber};
+ghost use Rattle.junction.specs.Turn.{junctionRule, junctionSentence, shadow, joins, junctionApply, junctionTurn};
 ghost use Rattle.junction.specs.Sound.{junctionSound};
 use cars::Car;
 use tours::JunctionRule;
@@ -45,7 +46,7 @@ fn joins(main: Car, subring: Car, train: bool, tour: bool, word: u64) -> Junctio
 impl Junction {
     // Which sentence applies. The subring's nodes are numbered from `low` + 1 to `high`; `wants`: one of them wants a train.
     pub fn rule(self, low: u8, high: u8, wants: bool, arrival: Car, out: Car) -> JunctionRule
-        ensures { λ r. ⌜ r ≡ junctionRule low high wants arrival out self ⌝ }
+        ensures { λ r. ⌜ (r ≡ junctionRule low high wants arrival out self) × (sentenceNumber r ≡ junctionSentence low high wants arrival out self) ⌝ }
     {
         if self.tour {
             return tours::in_tour(self.train, low, high, out);

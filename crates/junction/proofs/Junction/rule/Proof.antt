@@ -1,5 +1,5 @@
 -- `junction::Junction::rule` meets its contract. On each way to a return, the tests and calls on the way choose the case of the definition.
-use Rattle.junction.specs.Turn.{junctionRule}
+use Rattle.junction.specs.Turn.{junctionRule, junctionSentence}
 use borrow.Author.Needs.{needs}
 use Rattle.junction.proofs.Junction.rule.Statement.{statement}
 use Rattle.junction.proofs.Junction.rule.Tie as tie
@@ -8,15 +8,15 @@ in-tour-requires : tie.Need-in-tour-requires
 in-tour-requires c κs = search needs
 
 returns : tie.Need-returns
-unfolding junctionRule
-returns c = simp (c .in-tour .ensures, c .before .if1 .taken)
+unfolding junctionRule junctionSentence
+returns c = (simp (c .in-tour .ensures .0, c .before .if1 .taken), simp (c .in-tour .ensures .1, c .before .if1 .taken))
 
 outside-requires : tie.Need-outside-requires
 outside-requires c κs = search needs
 
 returns-2 : tie.Need-returns-2
-unfolding junctionRule
-returns-2 c = simp (c .outside .ensures, c .before .if1 .left)
+unfolding junctionRule junctionSentence
+returns-2 c = (simp (c .outside .ensures .0, c .before .if1 .left), simp (c .outside .ensures .1, c .before .if1 .left))
 
 pub rule-spec : {M : Type 1} → statement M
 rule-spec = tie.close (tie.spec in-tour-requires returns outside-requires returns-2)

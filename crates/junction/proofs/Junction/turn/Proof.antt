@@ -12,7 +12,7 @@ apply-requires c κs = search needs
 
 returns : tie.Need-returns
 unfolding junctionTurn
-returns c = simp (c .apply .ensures, c .before .rule .ensures)
+returns c = simp (c .apply .ensures, c .before .rule .ensures .0)
 
 pub turn-spec : {M : Type 1} → statement M
 turn-spec = tie.close (tie.spec rule-requires apply-requires returns)
