@@ -35,7 +35,7 @@ user-node =
       is-idle = (λ a. tt, λ a x y d e. same);
       had = (λ a. tt, λ a x y d e. same);
       wants-train = (λ a. tt, λ a x y d e. same);
-      rule = (λ a. tt, λ a x y d e. same);
+      rule = (λ a. tt, λ a x y d e p q. same (p .0) (q .0));
       astray = (λ a. tt, λ a x y d e. same);
       sound = (λ a. tt, λ a x y d e. same);
     }
@@ -60,7 +60,7 @@ pub zero-node-of : ZeroNodeOf
 zero-node-of =
     record {
       keeps = (λ a. tt, λ a x y d e. same);
-      rule = (λ a. tt, λ a x y d e. same);
+      rule = (λ a. tt, λ a x y d e p q. same (p .0) (q .0));
       turn = (λ a. tt, λ a x y d e. same);
       overflows = (λ a. tt, λ a x y d e. same);
       sound = (λ a. tt, λ a x y d e. same);
@@ -70,14 +70,14 @@ pub tours : Tours
 tours =
     record {
       within = (λ a. tt, λ a x y d e. same);
-      outside = (λ a. tt, λ a x y d e. same);
-      in-tour = (λ a. tt, λ a x y d e. same);
+      outside = (λ a. tt, λ a x y d e p q. same (p .0) (q .0));
+      in-tour = (λ a. tt, λ a x y d e p q. same (p .0) (q .0));
     }
 
 pub junction-of : JunctionOf
 junction-of =
     record {
-      rule = (λ a. tt, λ a x y d e. same);
+      rule = (λ a. tt, λ a x y d e p q. same (p .0) (q .0));
       turn = (λ a. tt, λ a x y d e. same);
       sound = (λ a. tt, λ a x y d e. same);
     }

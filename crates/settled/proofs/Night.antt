@@ -34,6 +34,7 @@ tally-of =
     record {
       empty-tally = (λ a. tt, λ a x y d e. same);
       step-tally = (λ a. tt, λ a x y d e. same);
+      silent-tally = (λ a. tt, λ a x y d e. same);
       sum-of = (λ a. tt, λ a x y d e. same);
     }
 

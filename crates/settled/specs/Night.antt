@@ -16,6 +16,7 @@ use Rattle.lines.proofs.written_number.Reads as written-number
 use Rattle.lines.proofs.write_line.Reads as write-line
 use Rattle.tally.proofs.empty_tally.Reads as empty-tally
 use Rattle.tally.proofs.step_tally.Reads as step-tally
+use Rattle.tally.proofs.silent_tally.Reads as silent-tally
 use Rattle.tally.proofs.sum_of.Reads as sum-of
 use Rattle.course.proofs.begin.Reads as begin
 use Rattle.course.proofs.Run.nodes.Reads as nodes
@@ -48,6 +49,7 @@ pub record Lines : Type 0 where
 pub record TallyOf : Type 0 where
   pub empty-tally : Settled (empty-tally.Asked tt) (empty-tally.Learnt tt)
   pub step-tally : Settled (step-tally.Asked tt) (step-tally.Learnt tt)
+  pub silent-tally : Settled (silent-tally.Asked tt) (silent-tally.Learnt tt)
   pub sum-of : Settled (sum-of.Asked tt) (sum-of.Learnt tt)
 
 -- course
