@@ -1,0 +1,46 @@
+-- 01, "The run and its lines": the words of each line. "Each line: steps done, letter, two numbers".
+use Prim.Native.Nat.{ℕ, _+_, _/_}
+use mathlib.Core.Bool.{Bool, cond}
+use mathlib.Core.List.{List}
+use Rattle.acts.specs.declared.Action.{Action}
+use Rattle.acts.specs.declared.Action.the-variants.{Take, Release, Force}
+use Rattle.turns.specs.declared.Event.{Event}
+use Rattle.turns.specs.Turn.{eventLetter, eventLock}
+use Rattle.lines.specs.Line.{line}
+use Rattle.wording.specs.declared.Line.{Line}
+
+-- a line as it is written
+unfoldable pub text : Line → List ℕ
+text l = line (l .steps) (l .letter) (l .first) (l .second)
+
+-- "T, R, F: accepted take, release, force, with node and lock."
+unfoldable pub actionLetter : Action → ℕ
+actionLetter Take = 84
+actionLetter Release = 82
+actionLetter Force = 70
+
+unfoldable pub actionSays : ℕ → Action → ℕ → ℕ → Line
+actionSays steps action node lock = record { steps = steps; letter = actionLetter action; first = node; second = lock }
+
+-- "X: a refused action, with its number and the item's place from 0": which item of the schedule it is, three bytes each
+unfoldable pub refusedSays : ℕ → ℕ → ℕ → Line
+refusedSays steps number at = record { steps = steps; letter = 88; first = number; second = at / 3 }
+
+-- "Events bear their step's number, .. with node and lock: G granted, N failp returned, L lost to a dov, B own dov back, D didv sent."
+unfoldable pub eventSays : ℕ → ℕ → Event → Line
+eventSays steps place event = record { steps = steps; letter = eventLetter event; first = place + 1; second = eventLock event }
+
+-- "one H line a lock ascending: lock and busy steps"
+unfoldable pub lockSays : ℕ → ℕ → ℕ → Line
+lockSays steps lock busy = record { steps = steps; letter = 72; first = lock; second = busy }
+
+-- "Last E, or C where the schedule's sum is above the ceiling: grants and N events."
+unfoldable pub endLetter : Bool → ℕ
+endLetter cut = cond cut 67 69
+
+unfoldable pub lastSays : ℕ → Bool → ℕ → ℕ → Line
+lastSays steps cut grants failed = record { steps = steps; letter = endLetter cut; first = grants; second = failed }
+
+-- "A refused file gives only "0 Q number 0"."
+unfoldable pub refusalSays : ℕ → ℕ → Line
+refusalSays steps number = record { steps = steps; letter = 81; first = number; second = 0 }
