@@ -21,22 +21,14 @@ use Rattle.junction.specs.Turn.{junctionTurn}
 use Rattle.ring.specs.declared.State.{State}
 use Rattle.ring.specs.declared.Walk.{Walk}
 use Rattle.ring.specs.Walk.{nodeHere, junctionHere, turnHere, onNode, wanted, intoSubring, outOfSubring, onJunction, onPosition, setOut, walk}
+use Rattle.ring.proofs.Walking.{walkOf}
 use Rattle.unused.specs.Unused.{Agree}
 use Rattle.unused.proofs.Lists.{same-set}
 use Rattle.unused.proofs.Passing.{like, value-same, node-same, junction-same}
 
 -- a walk with other lists of nodes and junctions
 abbrev pub withLists : Walk → List Node → List Junction → Walk
-withLists w nodes junctions =
-    record {
-      passed = w .passed;
-      turned = w .turned;
-      last = w .last;
-      astray = w .astray;
-      nodes = nodes;
-      events = w .events;
-      junctions = junctions;
-    }
+withLists w nodes junctions = walkOf (w .passed) (w .turned) (w .last) (w .astray) nodes (w .events) junctions
 
 -- the walk past this node
 abbrev past : ℕ → Node → Walk → Walk
@@ -108,15 +100,8 @@ module _ (a b : State) (g : Agree a (like a b)) (range : inRange (a .plan) ≡ t
         turned = h .turned;
         its-nodes = h .its-nodes;
         its-junctions = h .its-junctions;
-        same = ap (intoSubring (like a b)) (h .same) ∙ ap (λ (x : Junction). record {
-          passed = w .passed;
-          turned = w .turned;
-          last = x .subring;
-          astray = w .astray;
-          nodes = h .its-nodes;
-          events = w .events;
-          junctions = h .its-junctions;
-        }) (sym junction);
+        same = ap (intoSubring (like a b)) (h .same) ∙ ap (λ (x : Junction).
+            walkOf (w .passed) (w .turned) (x .subring) (w .astray) (h .its-nodes) (w .events) (h .its-junctions)) (sym junction);
         nodes-used = h .nodes-used;
         junctions-used = h .junctions-used;
         nodes-left = h .nodes-left;
@@ -142,16 +127,10 @@ module _ (a b : State) (g : Agree a (like a b)) (range : inRange (a .plan) ≡ t
         turned = ap (λ (k : ℕ). k + 1) (h .turned);
         its-nodes = i .its-nodes;
         its-junctions = set (h .its-junctions) (before .turned) _;
-        same = ap₂ (outOfSubring (like a b) size) (h .same) (i .same) ∙ ap₂ (λ (t : Bool) (x : Junction). record {
-          passed = inside .passed;
-          turned = before .turned + 1;
-          last = x .main;
-          astray = inside .astray;
-          nodes = i .its-nodes;
-          events = inside .events;
-          junctions = set (h .its-junctions) (before .turned)
-              (junctionTurn (before .passed) (before .passed + size) t (before .last) (inside .last) x);
-        }) (sym wants) (sym junction);
+        same = ap₂ (outOfSubring (like a b) size) (h .same) (i .same) ∙ ap₂ (λ (t : Bool) (x : Junction).
+            walkOf (inside .passed) (before .turned + 1) (x .main) (inside .astray) (i .its-nodes) (inside .events)
+            (set (h .its-junctions) (before .turned)
+            (junctionTurn (before .passed) (before .passed + size) t (before .last) (inside .last) x))) (sym wants) (sym junction);
         nodes-used = i .nodes-used;
         junctions-used = same-set gates (before .junctions) (h .its-junctions) (before .turned) _ here (h .junctions-used);
         nodes-left = i .nodes-left;
