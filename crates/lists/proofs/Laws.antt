@@ -91,6 +91,12 @@ every-at f zero k e h = absurd (not-suc-le-zero h)
 every-at f (suc n) k e h =
     ⊎-elim (λ l. every-at f n k (and-left (every f n) (f n) e) l) (λ q. ap f q ∙ and-right (every f n) (f n) e) (last-or-below h)
 
+-- what holds of each place below n is said by the test of all
+pub every-each : (f : ℕ → Bool) (n : ℕ) → ((k : ℕ) → k < n → f k ≡ true) → every f n ≡ true
+unfolding every
+every-each f zero h = refl
+every-each f (suc n) h = ap (λ (b : Bool). b && f n) (every-each f n (λ k l. h k (omega arith))) ∙ h n (omega arith)
+
 -- one place of which it does not hold is enough
 pub every-not : (f : ℕ → Bool) (n k : ℕ) → k < n → f k ≡ false → every f n ≡ false
 every-not f n k h e = go (every f n) refl

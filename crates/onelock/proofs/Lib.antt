@@ -23,7 +23,6 @@
 --   b d         bounds of homes, before and behind a list
 --   T X Y Z     lists of cells, front to back;  F: the train before a line;  B: what is behind the car that comes to it
 --   G H         the cells of a line, of a subring;  Gr: of the rest of a line;  C D: the cells of one car;  w: a gate's word
-pub mod Tests
 pub mod Train
 pub mod Line
 pub mod Node

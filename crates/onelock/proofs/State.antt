@@ -1,16 +1,11 @@
 -- The model's state as a whole ring, and the invariant of a state.
--- AsLine: a state's line. Each: what holds of each place of a list. Through, Walk: the model's walk is a step of the line. Zero: the zero node's
--- turn. Acts: an action. SoundNode, SoundZero, Sound: 13 never refuses. Lists: the line seen on the lists. Kept: the invariant of a state, kept by
--- steps and actions. Good: what the theorems need of it.
+-- AsLine: a state's line. Through, Walk: the model's walk is a step of the line. Zero: the zero node's turn. Acts: an action. Lists: the line seen on
+-- the lists. Kept: the invariant of a state, kept by steps and actions. Good: what the theorems need of it.
 pub mod AsLine
-pub mod Each
 pub mod Through
 pub mod Walk
 pub mod Zero
 pub mod Acts
-pub mod SoundNode
-pub mod SoundZero
-pub mod Sound
 pub mod Lists
 pub mod Kept
 pub mod Good

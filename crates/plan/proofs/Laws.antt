@@ -1,7 +1,7 @@
 -- Laws of a plan: what being in range says field by field, and how many user nodes and junctions its first positions have.
 use Prim.Native.Nat.{ℕ, zero, suc, _+_, _*_, _≤_, _<_}
 use mathlib.Core.Path.{_≡_}
-use mathlib.Core.Bool.{Bool, true, _&&_, _||_}
+use mathlib.Core.Bool.{Bool, true, false, _&&_, _||_}
 use native.Mathlib.Omega.{arith}
 use lib.Dec.{eqb, leb, lit≤, eqb·suc-zero}
 use borrow.Author.Tests.{leb-true}
@@ -66,6 +66,23 @@ unfolding placeInRange valueInRange
 value-at-most plan n place e below =
     leb-true (valueAt plan place) 4
     (and-left (leb (valueAt plan place) 4) (multiring (plan .rules) || eqb (valueAt plan place) 0) (every-at (placeInRange plan) n place e below))
+
+-- a position of value 0 is one user node and no junction; one of another value is so many user nodes and one junction
+pub size-one : (value : ℕ) → eqb value 0 ≡ true → sizeOf value ≡ 1
+unfolding sizeOf
+size-one value e = rw e
+
+pub size-many : (value : ℕ) → eqb value 0 ≡ false → sizeOf value ≡ value
+unfolding sizeOf
+size-many value e = rw e
+
+pub junctions-of-node : (value : ℕ) → eqb value 0 ≡ true → junctionsOf value ≡ 0
+unfolding junctionsOf
+junctions-of-node value e = rw e
+
+pub junctions-of-junction : (value : ℕ) → eqb value 0 ≡ false → junctionsOf value ≡ 1
+unfolding junctionsOf
+junctions-of-junction value e = rw e
 
 -- a value at most 4 has at most 4 user nodes
 size-most : (value : ℕ) → value ≤ 4 → sizeOf value ≤ 4

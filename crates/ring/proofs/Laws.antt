@@ -1,24 +1,30 @@
--- Laws of the state: what passing 13 says of plan and queue, on which places an action may fall, and that the functions for a
--- state known to pass 13 are then those for any state.
-use Prim.Native.Nat.{ℕ, _≤_}
+-- Laws of the state: on which places an action may fall, what passing 13 says, and what the step and an action of a state that
+-- passes are.
+use Prim.Native.Nat.{ℕ, _≤_, _<_}
 use mathlib.Core.Path.{_≡_, refl}
 use mathlib.Core.Bool.{Bool, true, false, cond, not, _&&_}
 use native.Mathlib.Omega.{arith}
-use lib.Dec.{leb}
-use borrow.Author.Tests.{leb-true, le-leb}
+use lib.Dec.{leb, ltb}
+use lib.ListN.{getD}
+use borrow.Author.Tests.{leb-true, ltb-true}
 use Rattle.lists.specs.Loops.{every}
-use Rattle.lists.proofs.Laws.{and-left, and-right}
+use Rattle.lists.proofs.Laws.{and-left, and-right, every-at}
+use Rattle.lists.proofs.Tests.{and-both}
 use Rattle.cars.specs.Cars.{isNode}
 use Rattle.plan.specs.declared.Plan.{Plan}
 use Rattle.plan.specs.Plan.{inRange, nodeCount, junctionCount}
 use Rattle.plan.proofs.Laws.{nodes-count-most, junctions-count-most}
 use Rattle.acts.specs.declared.Action.{Action}
+use Rattle.acts.specs.Actions.{nodeNumber}
+use Rattle.usernode.specs.Sound.{nodeSound}
 use Rattle.zeronode.specs.Sound.{zeroSound}
+use Rattle.junction.specs.Sound.{junctionSound}
 use Rattle.ring.specs.declared.State.{State}
+use Rattle.ring.specs.State.{restNode, restJunction, nodeOf}
 use Rattle.ring.specs.Sound.{zeroPasses, nodePasses, junctionPasses, sound}
-use Rattle.ring.specs.Actions.{actionNumber, acting, actingSound}
+use Rattle.ring.specs.Actions.{actionNumber, actedState, handedBack, acting}
 use Rattle.lists.specs.Refusal.{refusedIf}
-use Rattle.ring.specs.Step.{stepping, steppingSound}
+use Rattle.ring.specs.Step.{moving, stepping}
 
 -- what is 0 unless a test holds is bounded by its bound where the test holds
 bounded : (b : Bool) (n most : ℕ) → (b ≡ true → cond b n 0 ≤ most) → cond b n 0 ≤ most
@@ -34,13 +40,17 @@ pub junctions-most : (plan : Plan) → junctionCount plan ≤ 16
 unfolding junctionCount
 junctions-most plan = bounded (inRange plan) _ 16 (junctions-count-most plan)
 
--- the number of a node of the plan names a place of the state's nodes
-pub node-place : (plan : Plan) (node : ℕ) → isNode (nodeCount plan) node ≡ true → (1 ≤ node) × (node ≤ 64)
+-- the number of a node is 1 to U
+pub node-number : (nodes node : ℕ) → isNode nodes node ≡ true → (1 ≤ node) × (node ≤ nodes)
 unfolding isNode
+node-number nodes node e =
+    (leb-true 1 node (and-left (leb 1 node) (leb node nodes) e), leb-true node nodes (and-right (leb 1 node) (leb node nodes) e))
+
+-- so it names a place of the state's nodes
+pub node-place : (plan : Plan) (node : ℕ) → isNode (nodeCount plan) node ≡ true → (1 ≤ node) × (node ≤ 64)
 node-place plan node e =
-    let least = leb-true 1 node (and-left (leb 1 node) (leb node (nodeCount plan)) e) in
-    let most = leb-true node (nodeCount plan) (and-right (leb 1 node) (leb node (nodeCount plan)) e) in
-    (least, omega (arith, nodes-most plan))
+    let number = node-number (nodeCount plan) node e in
+    (number .0, omega (arith, number .1, nodes-most plan))
 
 -- an action that is not refused names a node of the plan
 pub accepted-node : (action : Action) (state : State) (node lock : ℕ) → actionNumber action state node lock ≡ 0 → isNode (nodeCount (state .plan)) node ≡ true
@@ -50,6 +60,19 @@ accepted-node action state node lock e = go (isNode (nodeCount (state .plan)) no
     go : (b : Bool) (later : ℕ) → cond (not b) 7 later ≡ 0 → b ≡ true
     go true later z = refl
     go false later z = absurd (omega arith)
+
+-- and a lock of the plan, and its node accepts it
+pub accepted : (action : Action) (state : State) (node lock : ℕ) → actionNumber action state node lock ≡ 0
+    → (lock < state .plan .locks) × (nodeNumber action (nodeOf state node) lock ≡ 0)
+unfolding actionNumber refusedIf
+accepted action state node lock e =
+    let both = go (isNode (nodeCount (state .plan)) node) (ltb lock (state .plan .locks)) (nodeNumber action (nodeOf state node) lock) e in
+    (ltb-true _ _ (both .0), both .1)
+  where
+    go : (a b : Bool) (n : ℕ) → cond (not a) 7 (cond (not b) 8 n) ≡ 0 → (b ≡ true) × (n ≡ 0)
+    go true true n z = (refl, z)
+    go true false n z = absurd (omega arith)
+    go false b n z = absurd (omega arith)
 
 -- what passing 13 says: each of its tests holds
 pub record Passed (state : State) : Type 0 where
@@ -73,6 +96,11 @@ passed state e =
       junctions = and-right (inRange (state .plan) && zeroPasses state count && nodes) junctions e;
     }
 
+-- and each of them together is passing 13
+pub passes : (state : State) → Passed state → sound state ≡ true
+unfolding sound
+passes state p = and-both (and-both (and-both (p .plan) (p .zeroth)) (p .nodes)) (p .junctions)
+
 -- the plan is in range, and the queue has at most 65 cars
 pub sound-plan : (state : State) → sound state ≡ true → inRange (state .plan) ≡ true
 sound-plan state e = passed state e .plan
@@ -81,11 +109,25 @@ pub sound-count : (state : State) → sound state ≡ true → state .zeroth .co
 unfolding zeroPasses zeroSound
 sound-count state e = leb-true (state .zeroth .count) 65 (and-left _ _ (and-left _ _ (passed state e .zeroth)))
 
--- on a state that passes 13, the step and the actions without that test are those with it
-pub step-of-sound : (state : State) → sound state ≡ true → stepping state ≡ steppingSound state
-unfolding stepping steppingSound
-step-of-sound state e = simp (e, sound-plan state e, le-leb _ _ (sound-count state e))
+-- a node of the plan, and a junction, pass by themselves
+pub node-passes : (state : State) → sound state ≡ true → (place : ℕ) → place < nodeCount (state .plan)
+    → nodeSound (state .plan .rules) (nodeCount (state .plan)) (state .plan .locks) (getD (state .nodes) place restNode) ≡ true
+unfolding nodePasses
+node-passes state e place l = every-at (nodePasses state (nodeCount (state .plan))) (nodeCount (state .plan)) place (passed state e .nodes) l
 
-pub act-of-sound : (action : Action) (state : State) (node lock : ℕ) → sound state ≡ true → acting action state node lock ≡ actingSound action state node lock
+pub junction-passes : (state : State) → sound state ≡ true → (place : ℕ) → place < junctionCount (state .plan)
+    → junctionSound (state .plan .rules) (nodeCount (state .plan)) (state .plan .locks) (getD (state .junctions) place restJunction) ≡ true
+unfolding junctionPasses
+junction-passes state e place l =
+    every-at (junctionPasses state (nodeCount (state .plan))) (junctionCount (state .plan)) place (passed state e .junctions) l
+
+-- a state that passes is stepped: 14, 15 or done
+pub step-of-sound : (state : State) → sound state ≡ true → stepping state ≡ moving state
+unfolding stepping
+step-of-sound state e = simp e
+
+-- and acted on: 7 to 12 or accepted
+pub act-of-sound : (action : Action) (state : State) (node lock : ℕ) → sound state ≡ true
+    → acting action state node lock ≡ handedBack (actionNumber action state node lock) (actedState action state node lock) state
 unfolding acting
 act-of-sound action state node lock e = simp e

@@ -1,3 +1,5 @@
 pub mod Laws
 pub mod Walking
 pub mod Opened
+pub mod Sound
+pub mod Theorems

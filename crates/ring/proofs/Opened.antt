@@ -19,7 +19,7 @@ use Rattle.zeronode.specs.Turn.{shifted, headOff, sends, appended, arrives, zer
 use Rattle.tours.specs.Rules.{within, outside, ifTrain, onGotp, onDidv, inTour}
 use Rattle.junction.specs.Sound.{junctionSound}
 use Rattle.junction.specs.Turn.{junctionRule, shadow, joins, junctionApply, junctionTurn}
-use Rattle.ring.specs.Actions.{actionNumber, actedState, handedBack, actingSound, acting}
+use Rattle.ring.specs.Actions.{actionNumber, actedState, handedBack, acting}
 use Rattle.ring.specs.Sound.{zeroPasses, nodePasses, junctionPasses, sound}
 use Rattle.ring.specs.State.{restNode, restJunction, startOf, smallPlan, startState, nodeOf}
 use Rattle.ring.specs.Step.{nextState, stepNumber, refused, done, moving, stepping}
@@ -54,5 +54,5 @@ unfolding within outside ifTrain onGotp onDidv inTour junctionRule junctionSound
 of-junction = 0
 
 unfoldable pub of-ring : ℕ
-unfolding actionNumber actedState handedBack actingSound acting zeroPasses nodePasses junctionPasses sound restNode restJunction startOf smallPlan startState nodeOf nextState stepNumber refused done moving stepping quiet nodeHere junctionHere turnHere onNode wanted intoSubring outOfSubring onJunction onPosition setOut walk
+unfolding actionNumber actedState handedBack acting zeroPasses nodePasses junctionPasses sound restNode restJunction startOf smallPlan startState nodeOf nextState stepNumber refused done moving stepping quiet nodeHere junctionHere turnHere onNode wanted intoSubring outOfSubring onJunction onPosition setOut walk
 of-ring = 0

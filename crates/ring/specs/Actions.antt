@@ -1,6 +1,6 @@
 -- 01, "Actions between steps", and the numbers 7 to 13 in their order.
 use Prim.Native.Nat.{ℕ, _-_}
-use mathlib.Core.Bool.{Bool, cond, not}
+use mathlib.Core.Bool.{cond, not}
 use lib.Dec.{eqb, ltb}
 use lib.ListN.{set}
 use Rattle.lists.specs.Refusal.{refusedIf}
@@ -37,10 +37,8 @@ actedState action state node lock =
 unfoldable pub handedBack : ℕ → State → State → Told
 handedBack number next state = record { number = number; state = cond (eqb number 0) next state }
 
--- an action on a state that 13 does not refuse
-unfoldable pub actingSound : Action → State → ℕ → ℕ → Told
-actingSound action state node lock = handedBack (actionNumber action state node lock) (actedState action state node lock) state
-
 -- "For actions 13 comes first, then 7 to 12."
 unfoldable pub acting : Action → State → ℕ → ℕ → Told
-acting action state node lock = cond (sound state) (actingSound action state node lock) (record { number = 13; state = state })
+acting action state node lock =
+    cond (sound state) (handedBack (actionNumber action state node lock) (actedState action state node lock) state)
+    (record { number = 13; state = state })

@@ -3,3 +3,5 @@ pub mod Sound
 pub mod Actions
 pub mod Walk
 pub mod Step
+pub mod Advance
+pub mod Theorems

@@ -1,12 +1,11 @@
 -- 01, "One step": the state after it, its events, and the numbers 13 to 15 in their order.
 use Prim.Native.Nat.{ℕ}
-use mathlib.Core.Bool.{Bool, cond, _&&_}
+use mathlib.Core.Bool.{cond}
 use mathlib.Core.List.{List}
-use lib.Dec.{eqb, leb}
+use lib.Dec.{eqb}
 use lib.ListN.{replicate}
 use Rattle.lists.specs.Refusal.{refusedIf}
-use Rattle.plan.specs.Plan.{nodePlaces, inRange}
-use Rattle.zeronode.specs.Rules.{queuePlaces}
+use Rattle.plan.specs.Plan.{nodePlaces}
 use Rattle.zeronode.specs.Turn.{zeroTurn, overflows}
 use Rattle.ring.specs.declared.State.{State}
 use Rattle.ring.specs.declared.Happening.{Happening}
@@ -60,8 +59,3 @@ moving state = cond (eqb (stepNumber state) 0) (done state) (refused (stepNumber
 -- "For a step 13, 14, 15."
 unfoldable pub stepping : State → StepTold
 stepping state = cond (sound state) (moving state) (refused 13 state)
-
--- the step without the test of cars, activities and words: 13 only where the plan or the queue's count is out of range.
--- On a state that passes 13 it is the step.
-unfoldable pub steppingSound : State → StepTold
-steppingSound state = cond (inRange (state .plan) && leb (state .zeroth .count) queuePlaces) (moving state) (refused 13 state)

@@ -4,7 +4,7 @@ ghost use Prim.Native.Nat.{_≤_};
 ghost use lib.Dec.{eqb};
 ghost use Rattle.acts.specs.declared.Action.the-variants.{Take, Release, Force};
 ghost use Rattle.acts.specs.Actions.{actionAnswerNumber};
-ghost use Rattle.ring.specs.Actions.{actionNumber, actedState, actionTold, actingSound, acting};
+ghost use Rattle.ring.specs.Actions.{actionNumber, actedState, handedBack, actionTold, acting};
 use crate::Acted;
 use crate::State;
 use acts::Action;
@@ -47,9 +47,9 @@ impl State {
         next
     }
 
-    // An action on a state that is known to pass 13: the refusals are 7 to 12.
-    pub fn act_sound(self, action: Action, node: u8, lock: u8) -> Acted
-        ensures { λ r. ⌜ actionTold r ≡ actingSound action self node lock ⌝ }
+    // An action on a state that 13 does not refuse: the refusals are 7 to 12.
+    fn handed_back(self, action: Action, node: u8, lock: u8) -> Acted
+        ensures { λ r. ⌜ actionTold r ≡ handedBack (actionNumber action self node lock) (actedState action self node lock) self ⌝ }
     {
         let answer = self.answer(action, node, lock);
         if accepts(answer) {
@@ -70,7 +70,7 @@ impl State {
         ensures { λ r. ⌜ actionTold r ≡ acting action self node lock ⌝ }
     {
         if self.sound() {
-            return self.act_sound(action, node, lock);
+            return self.handed_back(action, node, lock);
         }
         Acted {
             answer: ActionAnswer::BadState,

@@ -1,4 +1,4 @@
-// The state of the ring, by value: the start, the test of a made-up state (13), take, release, force and the step.
+// The state of the ring, by value: the start, the test of a made-up state (13), take, release, force, the step and several steps.
 ghost use mathlib.Core.Path.{_≡_};
 ghost use Rattle.ring.specs.State.{planAnswerNumber};
 ghost use Rattle.ring.specs.Step.{stepAnswerNumber};
@@ -63,6 +63,13 @@ pub struct Stepped {
     pub answer: StepAnswer,
     pub state: State,
     pub events: [Happening; NODES],
+}
+
+// The state after several steps, the events of the last of them, and how many were done.
+pub struct Advanced {
+    pub state: State,
+    pub events: [Happening; NODES],
+    pub done: u16,
 }
 
 // The walk through the senders: the nodes passed, the junctions turned, the car sent by the last sender met, whether an own

@@ -1,11 +1,8 @@
 // The step, with its refusals: 13, 14, 15.
 ghost use mathlib.Core.Path.{_≡_};
 ghost use mathlib.Core.Bool.{true};
-ghost use Prim.Native.Nat.{_≤_};
-ghost use lib.ListN.{replicate};
 ghost use Rattle.plan.specs.Plan.{inRange};
-ghost use Rattle.ring.specs.Walk.{quiet};
-ghost use Rattle.ring.specs.Step.{stepTold, moving, stepping, steppingSound, stepAnswerNumber, refused};
+ghost use Rattle.ring.specs.Step.{stepTold, moving, stepping, stepAnswerNumber, refused};
 use crate::Happening;
 use crate::State;
 use crate::StepAnswer;
@@ -28,7 +25,7 @@ impl State {
         }
     }
 
-    // A step of a state whose plan and queue count are in range.
+    // A step of a state that 13 does not refuse: the plan in range is what the walk needs of it.
     fn moving(self) -> Stepped
         requires { ⌜ inRange (self .plan) ≡ true ⌝ }
         ensures { λ r. ⌜ stepTold r ≡ moving self ⌝ }
@@ -57,21 +54,6 @@ impl State {
             state: next,
             events: events,
         }
-    }
-
-    // A step of a state that is known to pass 13: only the plan and the queue's count are tested.
-    pub fn step_sound(self) -> Stepped
-        ensures { λ r. ⌜ stepTold r ≡ steppingSound self ⌝ }
-    {
-        let plan = self.plan;
-        let count = self.zeroth.count;
-        if plan.in_range() {
-            if count <= 65 {
-                return self.moving();
-            }
-            return self.refused(StepAnswer::BadState);
-        }
-        self.refused(StepAnswer::BadState)
     }
 
     // One step of any state.

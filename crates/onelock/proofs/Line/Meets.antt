@@ -6,7 +6,7 @@ use native.Mathlib.Nat.{eq-or-lt-of-le}
 use native.Mathlib.Omega.{arith}
 use Rattle.cars.specs.declared.Car.{Car}
 use Rattle.usernode.specs.declared.Node.{Node}
-use Rattle.onelock.proofs.Tests.{at-most-or-above}
+use Rattle.lists.proofs.Tests.{at-most-or-above}
 use Rattle.onelock.proofs.Line.Ring.{Line, end, user, junction, size}
 use Rattle.onelock.proofs.Line.Numbers.{Agrees}
 

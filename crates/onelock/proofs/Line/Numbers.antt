@@ -12,7 +12,7 @@ use Rattle.cars.specs.Cars.{isNode}
 use Rattle.cars.specs.declared.Car.{Car}
 use Rattle.usernode.specs.declared.Node.{Node}
 use Rattle.junction.specs.declared.Junction.{Junction}
-use Rattle.onelock.proofs.Tests.{at-most-or-above}
+use Rattle.lists.proofs.Tests.{at-most-or-above}
 use Rattle.onelock.proofs.Train.Nodes.{put-here, put-there}
 use Rattle.onelock.proofs.Line.Ring.{Line, end, user, junction, size, out, stepLine, view}
 

@@ -18,7 +18,7 @@ use Rattle.usernode.specs.declared.Activity.the-variants.{Idle as Resting, Wait
 use Rattle.usernode.specs.Node.{had}
 use Rattle.usernode.specs.Node.{letGo}
 use Rattle.turns.specs.Turn.{becomes, grantCar}
-use Rattle.onelock.proofs.Tests.{by-value}
+use Rattle.lists.proofs.Tests.{by-value}
 use Rattle.onelock.proofs.Train.Cells.{Cell, cell, All, Gates, Bare, Gateless, asks, request, bit, Names, Apart}
 use Rattle.onelock.proofs.Train.Invariant.{Ok, Inv}
 use Rattle.onelock.proofs.Train.CellLaws.{all-left, all-right, all-join, all-map, gates-map}

@@ -15,7 +15,7 @@ use Rattle.usernode.specs.declared.Activity.the-variants.{Idle as Resting}
 use Rattle.usernode.specs.Node.{had}
 use Rattle.usernode.specs.Node.{letGo}
 use Rattle.turns.specs.Turn.{becomes}
-use Rattle.onelock.proofs.Tests.{or-by-first, or-by-second, by-value, or-left, or-right, or-first}
+use Rattle.lists.proofs.Tests.{or-by-first, or-by-second, by-value, or-left, or-right, or-first}
 use Rattle.onelock.proofs.Train.Cells.{Names, Apart}
 
 -- a node with the same words has the same locks

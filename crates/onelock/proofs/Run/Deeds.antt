@@ -20,9 +20,10 @@ use Rattle.turns.specs.Turn.{becomes, turn}
 use Rattle.usernode.specs.Sound.{lettingAllowed, nodeSound}
 use Rattle.acts.specs.declared.Action.{Action}
 use Rattle.acts.specs.declared.Action.the-variants.{Take, Release, Force}
+use Rattle.ring.proofs.Sound.Node.{in-plan}
 use Rattle.acts.specs.Actions.{laterNumber, nodeNumber, busyWith, released, acted}
 use Rattle.onelock.specs.OneLock.{Deed, granted, ended, deedIf, deedOf, releases}
-use Rattle.onelock.proofs.Tests.{or-second, by-value}
+use Rattle.lists.proofs.Tests.{or-second, by-value}
 use Rattle.onelock.proofs.Train.Cells.{Apart, Names}
 use Rattle.onelock.proofs.Node.Rules.{Small, Turned, sends-reqp, sends-dov, sends-didv, own-reqp, own-failp, fails-reqp, own-dov, loses-lock, passes}
 use Rattle.onelock.proofs.Node.Rules.{turned}
@@ -31,7 +32,6 @@ use Rattle.onelock.proofs.Node.Words.{same-words}
 use Rattle.onelock.proofs.Whole.Acts.{release-held, accepted-idle}
 use Rattle.onelock.proofs.Whole.Ready.{Awaited}
 use Rattle.onelock.proofs.State.Lists.{small-node}
-use Rattle.onelock.proofs.State.SoundNode.{in-plan}
 
 -- whether a node has a lock before and after, beside its deed; a grant says that nobody had it
 pub data Turns (None : Type 0) (me : ℕ) (old new : Bool) : List Deed → Type 0 where

@@ -17,23 +17,21 @@ use Rattle.acts.specs.declared.Action.{Action}
 use Rattle.acts.specs.Actions.{acted}
 use Rattle.ring.specs.declared.State.{State}
 use Rattle.ring.specs.State.{Told, restNode, nodeOf}
-use Rattle.ring.specs.Sound.{nodePasses}
 use Rattle.ring.specs.Actions.{actionNumber, actedState, handedBack}
 use Rattle.ring.specs.Walk.{quiet, walk}
 use Rattle.ring.specs.Step.{StepTold, nextState, done}
-use Rattle.ring.proofs.Laws.{accepted-node}
+use Rattle.ring.proofs.Laws.{accepted-node, accepted, node-passes}
 use Rattle.onelock.specs.OneLock.{Item, step, act, afterItem, Deed, ended, deedIf, deedOf, releases, deedsIn, deedsOf}
 use Rattle.onelock.proofs.Line.Meets.{Both, meets-both, Met, meets-at}
 use Rattle.onelock.proofs.Line.Numbers.{Upto, numbered}
 use Rattle.onelock.proofs.Whole.Ready.{Awaited}
 use Rattle.onelock.proofs.State.AsLine.{lineOf}
 use Rattle.onelock.proofs.State.Walk.{line-size, Acts, line-acts}
-use Rattle.onelock.proofs.State.Kept.{Kept, kept-next}
-use Rattle.onelock.proofs.State.Acts.{accepted}
+use Rattle.onelock.proofs.State.Kept.{Kept}
 use Rattle.onelock.proofs.State.Good.{Good, good, NobodyHas}
 use Rattle.onelock.proofs.Run.Deeds.{Turns, Fine, fine, turns, act-turns}
 use Rattle.onelock.proofs.Run.Moments.{Tells, nothing, alone, all-deeds}
-use Rattle.onelock.proofs.Run.Reached.{step-done, act-handed}
+use Rattle.onelock.proofs.Run.Reached.{step-done, act-handed, kept-after}
 
 -- who has the lock in a state
 abbrev pub having : State → ℕ → ℕ → Bool
@@ -58,10 +56,10 @@ Shows s lock t = Tells (nodeCount (s .plan)) (nodeCount (s .plan)) (having s loc
 module _ (s : State) (g : Good s) where
   -- the words of a node of a good state are as they should be
   fine-node : (q : ℕ) → Upto (nodeCount (s .plan)) q → Fine (s .plan .rules) (nodeOf s q)
-  unfolding nodeOf nodePasses
+  unfolding nodeOf
   fine-node q u =
       fine (s .plan .rules) (nodeCount (s .plan)) (s .plan .locks) (nodeOf s q) (in-range (s .plan) (g .plan) .locks-most)
-      (g .pass .nodes (q - 1)) (g .apart q u)
+      (node-passes s (g .pass) (q - 1) (omega (arith, u .low, u .high))) (g .apart q u)
 
   -- what a node is before and after a step, and what holds where its own reqp comes back to it
   met : (q : ℕ) → Upto (nodeCount (s .plan)) q → Met (Both (Acts s) (Awaited (NobodyHas s))) q
@@ -105,7 +103,7 @@ pub item-tells : (item : Item) (lock : ℕ) (s : State) → Kept s → Shows s l
 unfolding afterItem deedIf deedsOf done handedBack
 item-tells step lock s x =
     subst (λ (t : StepTold). Shows s lock (t .state) (deedsIn (s .plan .rules) lock (t .events) (nodeCount (s .plan)))) (sym (step-done s (good s x)))
-    (step-tells s (good s x) (good (nextState s) (kept-next s x)) lock)
+    (step-tells s (good s x) (good (nextState s) (kept-after s x)) lock)
 item-tells (act action node own) lock s x =
     subst (λ (t : Told). Shows s lock (t .state) (deedIf (ends && eqb (t .number) 0) (ended node)))
     (sym (act-handed action s node own (good s x))) (go (eqb (actionNumber action s node own) 0) refl)

@@ -10,7 +10,7 @@ use borrow.Author.Tests.{eq-eqb}
 use Rattle.ring.specs.declared.Happening.{Happening}
 use Rattle.ring.specs.Walk.{quiet}
 use Rattle.onelock.specs.OneLock.{Deed, granted, ended, deedOf, deedsIn, Lock, free, heldBy, broken, after, afterMoment, isBroken}
-use Rattle.onelock.proofs.Tests.{by-number}
+use Rattle.lists.proofs.Tests.{by-number}
 use Rattle.onelock.proofs.Line.Numbers.{Upto}
 use Rattle.onelock.proofs.Run.Deeds.{Turns, stays, gets, gives}
 

@@ -4,7 +4,6 @@ use Prim.Native.Nat.{ℕ, _≤_}
 use mathlib.Core.Path.{_≡_, refl, _∙_, ap, sym, subst}
 use mathlib.Core.Bool.{Bool, true, false, cond, not}
 use mathlib.Core.List.{List, [], _∷_}
-use native.Mathlib.Omega.{arith}
 use lib.Dec.{eqb, ltb, lit≤}
 use borrow.Author.Tests.{eqb-true}
 use Rattle.lists.specs.Refusal.{refusedIf}
@@ -12,7 +11,6 @@ use Rattle.words.specs.Words.{has}
 use Rattle.cars.specs.Cars.{isNode}
 use Rattle.plan.specs.declared.Plan.{Plan}
 use Rattle.plan.specs.Plan.{inRange, nodeCount}
-use Rattle.plan.proofs.Laws.{nodes-count-most}
 use Rattle.usernode.specs.declared.Node.{Node}
 use Rattle.usernode.specs.Node.{isIdle}
 use Rattle.acts.specs.declared.Action.{Action}
@@ -21,23 +19,19 @@ use Rattle.acts.specs.Actions.{wishNumber, releaseNumber, laterNumber, nodeNumb
 use Rattle.ring.specs.declared.State.{State}
 use Rattle.ring.specs.State.{Told, nodeOf, startOf}
 use Rattle.ring.specs.Sound.{sound}
-use Rattle.ring.specs.Actions.{actionNumber, actedState, handedBack, actingSound, acting}
+use Rattle.ring.specs.Actions.{actionNumber, actedState, handedBack, acting}
 use Rattle.ring.specs.Step.{StepTold, nextState, stepNumber, done, moving, stepping}
 use Rattle.ring.proofs.Laws.{act-of-sound}
+use Rattle.ring.proofs.Theorems.{step-keeps-sound, action-keeps-sound}
 use Rattle.onelock.specs.OneLock.{Item, step, act, afterItem, afterAll, reached}
-use Rattle.onelock.proofs.Tests.{by-test}
-use Rattle.onelock.proofs.State.Sound.{all-sound}
+use Rattle.lists.proofs.Tests.{by-test}
 use Rattle.onelock.proofs.State.Kept.{Kept, kept-start, kept-next, kept-act}
 use Rattle.onelock.proofs.State.Good.{Good, good}
-
--- 13 does not refuse a good state
-good-sound : (s : State) → Good s → sound s ≡ true
-good-sound s g = all-sound s (g .pass) (omega (arith, g .short, nodes-count-most (s .plan) (g .plan)))
 
 -- a step of a good state is done
 pub step-done : (s : State) → Good s → stepping s ≡ done s
 unfolding stepping moving stepNumber refusedIf
-step-done s g = simp (good-sound s g, g .room, g .ready)
+step-done s g = simp (g .pass, g .room, g .ready)
 
 -- the state after a step
 after-step : (s : State) → Good s → afterItem step s ≡ nextState s
@@ -47,8 +41,7 @@ after-step s g = ap (λ (t : StepTold). t .state) (step-done s g)
 -- an action on a good state goes by its number: by 7 to 12 alone
 pub act-handed : (action : Action) (s : State) (node lock : ℕ) → Good s
     → acting action s node lock ≡ handedBack (actionNumber action s node lock) (actedState action s node lock) s
-unfolding actingSound
-act-handed action s node lock g = act-of-sound action s node lock (good-sound s g)
+act-handed action s node lock g = act-of-sound action s node lock (g .pass)
 
 -- the number that it is handed back with is the action's own
 pub act-number : (action : Action) (s : State) (node lock : ℕ) → Good s → acting action s node lock .number ≡ actionNumber action s node lock
@@ -88,9 +81,21 @@ by-item P (act action node lock) s g same next acted =
     subst P (sym (after-act action s node lock g))
     (by-test P (eqb (actionNumber action s node lock) 0) (λ e. acted action node lock (eqb-true _ 0 e)) (λ e. same))
 
+-- an item keeps what 13 asks
+sound-item : (item : Item) (s : State) → sound s ≡ true → sound (afterItem item s) ≡ true
+unfolding afterItem
+sound-item step s e = step-keeps-sound s e
+sound-item (act action node lock) s e = action-keeps-sound action s node lock e
+
 -- an item keeps the invariant
 pub kept-item : (item : Item) (s : State) → Kept s → Kept (afterItem item s)
-kept-item item s x = by-item Kept item s (good s x) x (kept-next s x) (λ action node lock. kept-act action s node lock x)
+kept-item item s x =
+    by-item (λ t. sound t ≡ true → Kept t) item s (good s x) (λ e. x) (kept-next s x) (λ action node lock. kept-act action s node lock x)
+    (sound-item item s (x .pass))
+
+-- the next state has it
+pub kept-after : (s : State) → Kept s → Kept (nextState s)
+kept-after s x = subst Kept (after-step s (good s x)) (kept-item step s x)
 
 -- an item keeps the plan
 pub plan-item : (item : Item) (s : State) → Good s → afterItem item s .plan ≡ s .plan

@@ -1,23 +1,21 @@
 -- The line of a state after an action, and the lists' places after a start, a step and an action.
 use Prim.Native.Nat.{ℕ, zero, suc, _+_, _-_, _≤_, _<_}
 use mathlib.Core.Path.{_≡_, refl, _∙_, ap, ap₂}
-use mathlib.Core.Bool.{Bool, true, false, cond, not}
+use mathlib.Core.Bool.{Bool, true, false, cond}
 use mathlib.Core.List.{List}
 use native.Mathlib.Numerals.{add-one}
 use native.Mathlib.Omega.{arith}
-use lib.Dec.{eqb, ltb, eqb·suc-zero}
+use lib.Dec.{eqb, eqb·suc-zero}
 use lib.ListN.{getD, set, length, length-set, length-replicate}
 use lib.Seq.{getD-set-same, getD-set-other}
-use borrow.Author.Tests.{ltb-true, eqb-true, eqb-false}
-use Rattle.lists.specs.Refusal.{refusedIf}
-use Rattle.cars.specs.Cars.{isNode}
+use borrow.Author.Tests.{eqb-true, eqb-false}
 use Rattle.plan.specs.declared.Plan.{Plan}
-use Rattle.plan.specs.Plan.{inRange, valueAt, sizeOf, junctionsOf, nodeCount}
+use Rattle.plan.specs.Plan.{inRange, valueAt, sizeOf, junctionsOf}
 use Rattle.usernode.specs.declared.Node.{Node}
 use Rattle.junction.specs.declared.Junction.{Junction}
 use Rattle.zeronode.specs.Rules.{emptySlot}
 use Rattle.acts.specs.declared.Action.{Action}
-use Rattle.acts.specs.Actions.{nodeNumber, acted}
+use Rattle.acts.specs.Actions.{acted}
 use Rattle.ring.specs.declared.State.{State}
 use Rattle.ring.specs.State.{restNode, restJunction, nodeOf, startOf}
 use Rattle.ring.specs.Actions.{actedState, actionNumber}
@@ -96,16 +94,3 @@ line-act action s node lock f a r =
     let act : Node → Node = λ u. acted (s .plan .rules) action u lock in
     positions-anew (s .nodes) (node - 1) act low (s .plan) (s .junctions) (s .plan .positions) 0 0 0
     ∙ ap (λ (number : ℕ). change number act 0 (lineOf s)) e
-
--- an accepted action names a lock of the plan, and its node accepts it
-pub accepted : (action : Action) (s : State) (node lock : ℕ) → actionNumber action s node lock ≡ 0
-    → (lock < s .plan .locks) × (nodeNumber action (nodeOf s node) lock ≡ 0)
-unfolding actionNumber refusedIf
-accepted action s node lock e =
-    let both = go (isNode (nodeCount (s .plan)) node) (ltb lock (s .plan .locks)) (nodeNumber action (nodeOf s node) lock) e in
-    (ltb-true _ _ (both .0), both .1)
-  where
-    go : (a b : Bool) (n : ℕ) → cond (not a) 7 (cond (not b) 8 n) ≡ 0 → (b ≡ true) × (n ≡ 0)
-    go true true n z = (refl, z)
-    go true false n z = absurd (omega arith)
-    go false b n z = absurd (omega arith)

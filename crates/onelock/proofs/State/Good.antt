@@ -6,16 +6,18 @@ use native.Mathlib.Omega.{arith}
 use lib.ListN.{getD}
 use borrow.Author.Tests.{ne-eqb}
 use Rattle.lists.proofs.Laws.{some-at, some-found}
+use Rattle.lists.proofs.Places.{place-default}
 use Rattle.words.specs.Words.{has}
 use Rattle.cars.specs.declared.Car.{Car}
 use Rattle.plan.specs.declared.Plan.{Plan}
 use Rattle.plan.specs.Plan.{nodePlaces, valueAt, inRange, nodesBefore, nodeCount}
-use Rattle.plan.proofs.Laws.{nodes-within, counted}
+use Rattle.plan.proofs.Laws.{size-many, nodes-within, counted}
 use Rattle.usernode.specs.declared.Node.{Node}
 use Rattle.usernode.specs.Node.{had}
 use Rattle.zeronode.specs.Turn.{overflows}
 use Rattle.ring.specs.declared.State.{State}
 use Rattle.ring.specs.State.{restNode, nodeOf, startOf}
+use Rattle.ring.specs.Sound.{sound}
 use Rattle.ring.specs.Walk.{walk}
 use Rattle.onelock.specs.OneLock.{junctionAt, subringHas}
 use Rattle.onelock.proofs.Train.Cells.{Apart}
@@ -31,9 +33,7 @@ use Rattle.onelock.proofs.State.Through.{users-size}
 use Rattle.onelock.proofs.State.Walk.{walk-astray}
 use Rattle.onelock.proofs.State.Zero.{queue-length}
 use Rattle.onelock.proofs.State.Lists.{line-junction}
-use Rattle.onelock.proofs.State.Each.{each-replicate}
-use Rattle.onelock.proofs.State.Sound.{AllPass, size-many}
-use Rattle.onelock.proofs.State.Kept.{Kept, kept-room, kept-node}
+use Rattle.onelock.proofs.State.Kept.{Kept, kept-count, kept-room, kept-node}
 
 -- a node of the state, by its number
 abbrev pub Within : State → ℕ → Type 0
@@ -47,7 +47,7 @@ NobodyHas s lock = (k : ℕ) → Within s k → had (nodeOf s k) lock ≡ true �
 pub record Good (s : State) : Type 0 where
   pub plan : inRange (s .plan) ≡ true
   pub formed : Formed s
-  pub pass : AllPass s
+  pub pass : sound s ≡ true
   pub short : s .zeroth .count ≤ nodeCount (s .plan) + 1
   pub room : overflows (s .zeroth) (walk s .last) ≡ false
   pub ready : walk s .astray ≡ false
@@ -60,7 +60,7 @@ pub record Good (s : State) : Type 0 where
 -- at the start no node has a lock
 pub rest-has-none : (plan : Plan) (node lock : ℕ) → had (nodeOf (startOf plan) node) lock ≡ false
 unfolding startOf nodeOf
-rest-has-none plan node lock = rw (each-replicate (λ u. u ≡ restNode) restNode refl nodePlaces (node - 1)) (rest-none lock)
+rest-has-none plan node lock = rw (place-default (λ u. u ≡ restNode) restNode nodePlaces (node - 1) refl) (rest-none lock)
 
 -- where each node is ready for its car, no node of the line is astray
 none-strays : (A : ℕ → Node) (k : ℕ) (a : Car) (l : Line) → Meets (Ready A) k a l → strays k a l ≡ false
@@ -140,7 +140,7 @@ module _ (s : State) (x : Kept s) where
         short = omega (
           arith,
           whole-queue (s .plan .rules) (nodeCount (s .plan)) (s .zeroth .car) (queueOf (s .zeroth)) (lineOf s) (x .whole),
-          queue-length (s .zeroth) (omega (arith, x .count, x .formed .queue)),
+          queue-length (s .zeroth) (omega (arith, kept-count s x, x .formed .queue)),
         );
         room = kept-room s x;
         ready = walk-astray s ∙ none-strays A 0 (s .zeroth .car) (lineOf s) each-ready;

@@ -1,4 +1,5 @@
--- The invariant of a state: the whole ring fits. It holds at the start of a plan in range, and a step and an accepted action keep it.
+-- The invariant of a state: 13 does not refuse it, and the whole ring fits. It holds at the start of a plan in range, and a step and an accepted
+-- action keep it; that they keep what 13 asks is ring's theorem, and a premise here.
 use Prim.Native.Nat.{ℕ, _≤_}
 use mathlib.Core.Path.{_≡_, sym, ap, _∙_, subst}
 use mathlib.Core.Bool.{true, false}
@@ -14,10 +15,12 @@ use Rattle.acts.specs.declared.Action.{Action}
 use Rattle.acts.specs.Actions.{nodeNumber}
 use Rattle.ring.specs.declared.State.{State}
 use Rattle.ring.specs.State.{nodeOf, startOf}
+use Rattle.ring.specs.Sound.{sound}
 use Rattle.ring.specs.Actions.{actionNumber, actedState}
 use Rattle.ring.specs.Walk.{walk}
 use Rattle.ring.specs.Step.{nextState}
-use Rattle.ring.proofs.Laws.{accepted-node}
+use Rattle.ring.proofs.Laws.{accepted-node, accepted, sound-count}
+use Rattle.ring.proofs.Theorems.{start-sound}
 use Rattle.onelock.proofs.Line.Ring.{stepLine}
 use Rattle.onelock.proofs.Line.Meets.{Both, meets-both, Numbers, agrees-meets, meets-at}
 use Rattle.onelock.proofs.Line.Numbers.{Upto, numbered}
@@ -28,17 +31,15 @@ use Rattle.onelock.proofs.Whole.Queue.{whole-queue}
 use Rattle.onelock.proofs.Whole.Zero.{sentBy, queueAfter}
 use Rattle.onelock.proofs.State.AsLine.{lineOf, queueOf, Formed}
 use Rattle.onelock.proofs.State.Walk.{line-size, walk-last, line-next, Acts, line-acts}
-use Rattle.onelock.proofs.State.Zero.{zero-car, zero-queue, zero-count, no-overflow}
-use Rattle.onelock.proofs.State.Acts.{formed-start, formed-next, formed-act, line-act, accepted}
+use Rattle.onelock.proofs.State.Zero.{zero-car, zero-queue, no-overflow}
+use Rattle.onelock.proofs.State.Acts.{formed-start, formed-next, formed-act, line-act}
 use Rattle.onelock.proofs.State.Lists.{line-small, line-cars, line-mode, line-fresh}
-use Rattle.onelock.proofs.State.Sound.{AllPass, pass-start, pass-next, pass-act}
 
 -- the invariant of a state
 pub record Kept (s : State) : Type 0 where
   pub plan : inRange (s .plan) ≡ true
   pub formed : Formed s
-  pub pass : AllPass s
-  pub count : s .zeroth .count ≤ 65
+  pub pass : sound s ≡ true
   pub whole : Whole (s .plan .rules) (nodeCount (s .plan)) (s .zeroth .car) (queueOf (s .zeroth)) (lineOf s)
 
 -- the start of a plan in range has it
@@ -49,8 +50,7 @@ kept-start plan r =
     record {
       plan = r;
       formed = formed-start plan;
-      pass = pass-start plan r;
-      count = omega arith;
+      pass = start-sound plan r;
       whole = whole-start (plan .rules) (nodeCount plan) (lineOf s) (line-fresh plan) (line-size s r) (line-mode s r);
     }
 
@@ -62,6 +62,10 @@ module _ (s : State) (x : Kept s) where
   -- the user nodes of its plan
   abbrev nodes : ℕ
   nodes = nodeCount (s .plan)
+
+  -- its queue has at most 65 cars
+  pub kept-count : s .zeroth .count ≤ 65
+  kept-count = sound-count s (x .pass)
 
   -- the ring after a step fits, by what the zero node sends and what is left of its queue
   next-whole : Whole rules nodes (sentBy (queueOf (s .zeroth)) (walk s .last)) (queueAfter (queueOf (s .zeroth)) (walk s .last))
@@ -79,21 +83,20 @@ module _ (s : State) (x : Kept s) where
 
   -- so there is room for the arrival
   pub kept-room : overflows (s .zeroth) (walk s .last) ≡ false
-  kept-room = no-overflow (s .zeroth) (walk s .last) (x .formed .queue) (x .count) next-short
+  kept-room = no-overflow (s .zeroth) (walk s .last) (x .formed .queue) kept-count next-short
 
   -- a step keeps it
-  pub kept-next : Kept (nextState s)
+  pub kept-next : sound (nextState s) ≡ true → Kept (nextState s)
   unfolding nextState
-  kept-next =
+  kept-next e =
       let z = s .zeroth in
       let y = walk s .last in
       let places = x .formed .queue in
       record {
         plan = x .plan;
-        formed = formed-next s (x .formed) (x .count);
-        pass = pass-next s (x .pass);
-        count = omega (arith, zero-count z y places (x .count) kept-room, next-short);
-        whole = rw (zero-car z y places (x .count) kept-room, zero-queue z y places (x .count) kept-room, line-next s (x .plan) (x .formed)) next-whole;
+        formed = formed-next s (x .formed) kept-count;
+        pass = e;
+        whole = rw (zero-car z y places kept-count kept-room, zero-queue z y places kept-count kept-room, line-next s (x .plan) (x .formed)) next-whole;
       }
 
   -- the invariant's nodes are the state's
@@ -107,9 +110,10 @@ module _ (s : State) (x : Kept s) where
       met .holds .1 ∙ sym (met .holds .0 .old)
 
 -- an accepted action keeps it
-pub kept-act : (action : Action) (s : State) (node lock : ℕ) → Kept s → actionNumber action s node lock ≡ 0 → Kept (actedState action s node lock)
+pub kept-act : (action : Action) (s : State) (node lock : ℕ) → Kept s → actionNumber action s node lock ≡ 0
+    → sound (actedState action s node lock) ≡ true → Kept (actedState action s node lock)
 unfolding actedState
-kept-act action s node lock x a =
+kept-act action s node lock x a e =
     let rules = s .plan .rules in
     let nodes = nodeCount (s .plan) in
     let u = numbered nodes node (accepted-node action s node lock a) in
@@ -118,8 +122,7 @@ kept-act action s node lock x a =
     record {
       plan = x .plan;
       formed = formed-act action s node lock (x .formed);
-      pass = pass-act action s node lock (x .pass) a;
-      count = x .count;
+      pass = e;
       whole = rw (line-act action s node lock (x .formed) a (x .plan))
           (whole-act rules nodes action node lock (s .zeroth .car) (queueOf (s .zeroth)) (lineOf s) (x .whole) (u .low) (u .high) allowed
           (line-small s (x .pass)));

@@ -13,11 +13,12 @@ use lib.ListN.{getD}
 use lib.Pow.{pow-mono}
 use borrow.Author.Tests.{ltb-true, eqb-true}
 use Rattle.lists.proofs.Laws.{and-right, every-at}
+use Rattle.lists.proofs.Places.{place-default}
 use Rattle.cars.specs.declared.Car.{Car}
 use Rattle.cars.specs.Cars.{multiring, names, noticeNames, carNames}
 use Rattle.plan.specs.declared.Plan.{Plan}
 use Rattle.plan.specs.Plan.{valueAt, valueInRange, placeInRange, inRange, sizeOf, junctionsOf, nodesBefore, junctionsBefore, nodeCount}
-use Rattle.plan.proofs.Laws.{in-range, nodes-none, nodes-more, junctions-none, junctions-more}
+use Rattle.plan.proofs.Laws.{in-range, nodes-none, nodes-more, nodes-within, counted, junctions-none, junctions-more, junctions-within, junctions-counted}
 use Rattle.usernode.specs.declared.Node.{Node}
 use Rattle.usernode.specs.declared.Activity.{Activity}
 use Rattle.usernode.specs.declared.Activity.the-variants.{Idle as Resting, ToSendReqp, WaitingReqp, ToSendDov, WaitingDov}
@@ -25,7 +26,10 @@ use Rattle.usernode.specs.Sound.{activityNames, nodeSound}
 use Rattle.junction.specs.declared.Junction.{Junction}
 use Rattle.ring.specs.declared.State.{State}
 use Rattle.ring.specs.State.{restNode, restJunction, startOf}
-use Rattle.ring.specs.Sound.{nodePasses, junctionPasses}
+use Rattle.ring.specs.Sound.{sound}
+use Rattle.ring.proofs.Laws.{sound-plan, node-passes, junction-passes}
+use Rattle.ring.proofs.Sound.Node.{names-lock, sound-car, in-plan}
+use Rattle.ring.proofs.Sound.Junction.{junction-in-plan}
 use Rattle.onelock.proofs.Train.Cells.{Names}
 use Rattle.onelock.proofs.Line.Ring.{Line}
 use Rattle.onelock.proofs.Line.Numbers.{Nodes, Cars, Users, Parts, parts-nodes}
@@ -34,28 +38,47 @@ use Rattle.onelock.proofs.Whole.Start.{Fresh}
 use Rattle.onelock.proofs.Whole.Words.{Junctions}
 use Rattle.onelock.proofs.State.AsLine.{usersFrom, positionAt, positionsFrom, lineOf}
 use Rattle.onelock.proofs.State.Through.{users-size}
-use Rattle.onelock.proofs.State.SoundNode.{names-lock, sound-car, in-plan}
-use Rattle.onelock.proofs.State.Each.{Each, each-replicate}
-use Rattle.onelock.proofs.State.SoundZero.{junction-in-plan}
-use Rattle.onelock.proofs.State.Sound.{AllPass}
 
--- what holds of every place of the lists of nodes and of junctions holds of each node and junction of the line
-module _ (P : Node → Type 0) (Q : Junction → Type 0) (nodes : List Node) (junctions : List Junction) (each-node : Each P restNode nodes)
-    (each-junction : Each Q restJunction junctions) where
+-- the nodes, and the junctions, of the positions before the next one
+next-nodes : (plan : Plan) (place : ℕ) → nodesBefore plan place + sizeOf (valueAt plan place) ≡ nodesBefore plan (suc place)
+next-nodes plan place = sym (nodes-more plan place) ∙ ap (nodesBefore plan) (add-one place)
+
+next-junctions : (plan : Plan) (place : ℕ) → junctionsBefore plan place + junctionsOf (valueAt plan place) ≡ junctionsBefore plan (suc place)
+next-junctions plan place = sym (junctions-more plan place) ∙ ap (junctionsBefore plan) (add-one place)
+
+-- what holds of every place in use of the lists of nodes and of junctions holds of each node and junction of the line
+module _ (P : Node → Type 0) (Q : Junction → Type 0) (plan : Plan) (nodes : List Node) (junctions : List Junction)
+    (each-node : (i : ℕ) → i < nodesBefore plan (plan .positions) → P (getD nodes i restNode))
+    (each-junction : (j : ℕ) → j < junctionsBefore plan (plan .positions) → Q (getD junctions j restJunction)) where
   -- of so many user nodes
-  users-parts : (n i : ℕ) → Parts P Q (usersFrom nodes i n)
-  users-parts zero i = tt
-  users-parts (suc n) i = (each-node i, users-parts n (suc i))
+  users-parts : (n i : ℕ) → i + n ≤ nodesBefore plan (plan .positions) → Parts P Q (usersFrom nodes i n)
+  users-parts zero i l = tt
+  users-parts (suc n) i l = (each-node i (omega arith), users-parts n (suc i) (omega arith))
 
   -- of a position and what is behind it
-  position-parts : (v i j : ℕ) (rest : Line) → Parts P Q rest → Parts P Q (positionAt nodes junctions v i j rest)
-  position-parts zero i j rest x = (each-node i, x)
-  position-parts (suc v) i j rest x = (each-junction j, users-parts (suc v) i, x)
+  position-parts : (v i j : ℕ) (rest : Line) → i + sizeOf v ≤ nodesBefore plan (plan .positions) → j + junctionsOf v ≤ junctionsBefore plan (plan .positions)
+      → Parts P Q rest → Parts P Q (positionAt nodes junctions v i j rest)
+  unfolding sizeOf junctionsOf
+  position-parts zero i j rest l m x = (each-node i (omega arith), x)
+  position-parts (suc v) i j rest l m x =
+      let room : i + suc v ≤ nodesBefore plan (plan .positions) = rw eqb·suc-zero at l in
+      let gate : j + 1 ≤ junctionsBefore plan (plan .positions) = rw eqb·suc-zero at m in
+      (each-junction j (omega arith), users-parts (suc v) i room, x)
 
   -- of so many positions
-  positions-parts : (plan : Plan) (n place i j : ℕ) → Parts P Q (positionsFrom plan nodes junctions place n i j)
-  positions-parts plan zero place i j = tt
-  positions-parts plan (suc n) place i j = position-parts (valueAt plan place) i j _ (positions-parts plan n (suc place) _ _)
+  positions-parts : (n place i j : ℕ) → place + n ≤ plan .positions → i ≡ nodesBefore plan place → j ≡ junctionsBefore plan place
+      → Parts P Q (positionsFrom plan nodes junctions place n i j)
+  positions-parts zero place i j l a b = tt
+  positions-parts (suc n) place i j l a b =
+      let v = valueAt plan place in
+      position-parts v i j _ (omega (arith, nodes-within plan (plan .positions) place (omega arith)))
+      (omega (arith, junctions-within plan (plan .positions) place (omega arith)))
+      (positions-parts n (suc place) (i + sizeOf v) (j + junctionsOf v) (omega arith) (ap (λ (k : ℕ). k + sizeOf v) a ∙ next-nodes plan place)
+      (ap (λ (k : ℕ). k + junctionsOf v) b ∙ next-junctions plan place))
+
+  -- of all positions
+  line-parts : Parts P Q (positionsFrom plan nodes junctions 0 (plan .positions) 0 0)
+  line-parts = positions-parts (plan .positions) 0 0 0 (omega arith) (sym (nodes-none plan)) (sym (junctions-none plan))
 
 -- the lock of an activity that 13 does not refuse is one of the plan
 activity-lock : (locks lock : ℕ) (act : Activity) → activityNames locks act ≡ true → Names act lock → lock < locks
@@ -76,14 +99,14 @@ small-node rules nodes locks u most e =
       wish = λ lock n. omega (arith, activity-lock locks lock (u .activity) (f .activity) n);
     }
 
--- so the nodes of a line are small where all places pass
-pub line-small : (s : State) → AllPass s → Nodes Small (lineOf s)
-unfolding nodePasses
-line-small s p =
-    let most = in-range (s .plan) (p .plan) .locks-most in
-    let each : Each Small restNode (s .nodes) = λ i. small-node (s .plan .rules) (nodeCount (s .plan)) (s .plan .locks) _ most (p .nodes i) in
+-- so the nodes of a line are small where 13 does not refuse the state
+pub line-small : (s : State) → sound s ≡ true → Nodes Small (lineOf s)
+line-small s e =
+    let most = in-range (s .plan) (sound-plan s e) .locks-most in
     parts-nodes Small (λ j. Unit) (lineOf s)
-    (positions-parts Small (λ j. Unit) (s .nodes) (s .junctions) each (λ i. tt) (s .plan) (s .plan .positions) 0 0 0)
+    (line-parts Small (λ j. Unit) (s .plan) (s .nodes) (s .junctions)
+    (λ i l. small-node (s .plan .rules) (nodeCount (s .plan)) (s .plan .locks) _ most (node-passes s e i (omega (arith, l, counted (s .plan) (sound-plan s e)))))
+    (λ i l. tt))
 
 -- the lock of a notice that 13 does not refuse is below 64
 notice-lock : (rules nodes locks : ℕ) (c : Car) → locks ≤ 64 → carNames rules nodes locks c ≡ true → LowNotice c
@@ -93,20 +116,19 @@ notice-lock rules nodes locks c most e x is =
     ⊎-elim (λ z. ap (carNames rules nodes locks) (sym z) ∙ e) (λ z. ap (carNames rules nodes locks) (sym z) ∙ e) is in
     omega (arith, names-lock nodes locks (x .lock) (x .source) (and-right (multiring rules) (names nodes locks (x .lock) (x .source)) named))
 
--- so a line's notices name locks below 64 where all places pass
-pub line-cars : (s : State) → AllPass s → Cars LowNotice (lineOf s)
-unfolding nodePasses junctionPasses
-line-cars s p =
-    let most = in-range (s .plan) (p .plan) .locks-most in
+-- so a line's notices name locks below 64 where 13 does not refuse the state
+pub line-cars : (s : State) → sound s ≡ true → Cars LowNotice (lineOf s)
+line-cars s e =
+    let range = sound-plan s e in
+    let most = in-range (s .plan) range .locks-most in
     let rules = s .plan .rules in
     let nodes = nodeCount (s .plan) in
     let locks = s .plan .locks in
-    positions-parts (λ u. LowNotice (u .car)) (λ j. LowNotice (j .subring) × LowNotice (j .main)) (s .nodes) (s .junctions)
-    (λ i. notice-lock rules nodes locks _ most (sound-car rules nodes locks _ (p .nodes i)))
-    (λ i.
-    let f = junction-in-plan rules nodes locks _ (p .junctions i) in
+    line-parts (λ u. LowNotice (u .car)) (λ j. LowNotice (j .subring) × LowNotice (j .main)) (s .plan) (s .nodes) (s .junctions)
+    (λ i l. notice-lock rules nodes locks _ most (sound-car rules nodes locks _ (node-passes s e i (omega (arith, l, counted (s .plan) range)))))
+    (λ i l.
+    let f = junction-in-plan rules nodes locks _ (junction-passes s e i (omega (arith, l, junctions-counted (s .plan) range))) in
     (notice-lock rules nodes locks _ most (f .1), notice-lock rules nodes locks _ most (f .0)))
-    (s .plan) (s .plan .positions) 0 0 0
 
 -- a position of value 0 is a user node
 position-users : (nodes : List Node) (junctions : List Junction) (v i j : ℕ) (rest : Line) → v ≡ 0 → Users rest → Users (positionAt nodes junctions v i j rest)
@@ -144,8 +166,7 @@ line-mode s r = go (multiring (s .plan .rules)) refl
 pub line-fresh : (plan : Plan) → Fresh (lineOf (startOf plan))
 unfolding startOf
 line-fresh plan =
-    positions-parts _ _ _ _ (each-replicate (λ u. u ≡ restNode) restNode refl 64) (each-replicate (λ j. j ≡ restJunction) restJunction refl 16)
-    plan (plan .positions) 0 0 0
+    line-parts _ _ plan _ _ (λ i l. place-default (λ u. u ≡ restNode) restNode 64 i refl) (λ i l. place-default (λ j. j ≡ restJunction) restJunction 16 i refl)
 
 -- what holds of each junction of a position and of those behind it: of its own junction, and of those behind
 module _ (P : ℕ → Junction → Line → Type 0) (nodes : List Node) (junctions : List Junction) where
@@ -184,16 +205,11 @@ module _ (P : ℕ → Junction → Line → Type 0) (nodes : List Node) (junctio
       v : ℕ
       v = valueAt plan place
 
-      more-nodes : i + sizeOf v ≡ nodesBefore plan (suc place)
-      more-nodes = sym (nodes-more plan place) ∙ ap (nodesBefore plan) (add-one place)
-
-      more-junctions : j + junctionsOf v ≡ junctionsBefore plan (suc place)
-      more-junctions = sym (junctions-more plan place) ∙ ap (junctionsBefore plan) (add-one place)
-
       behind : Junctions P (nodesBefore plan (suc place))
           (positionsFrom plan nodes junctions (suc place) n (nodesBefore plan (suc place)) (junctionsBefore plan (suc place)))
       behind =
-          subst₂ (λ (a b : ℕ). Junctions P a (positionsFrom plan nodes junctions (suc place) n a b)) more-nodes more-junctions
+          subst₂ (λ (a b : ℕ). Junctions P a (positionsFrom plan nodes junctions (suc place) n a b)) (next-nodes plan place)
+          (next-junctions plan place)
           (position-behind v i j _ x)
 
 -- the junction of a position

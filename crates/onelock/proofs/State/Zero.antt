@@ -1,5 +1,5 @@
 -- The zero node's turn, seen on its queue as a list of cars.
-use Prim.Native.Nat.{ℕ, zero, suc, _+_, _-_, _≤_, _<_}
+use Prim.Native.Nat.{ℕ, zero, suc, _-_, _≤_, _<_}
 use mathlib.Core.Path.{_≡_, refl, _∙_, sym, ap}
 use mathlib.Core.Bool.{Bool, true, false, cond, _&&_}
 use mathlib.Core.List.{List, [], _∷_, _++_, append-nil}
@@ -126,7 +126,6 @@ count-left z (SendsHead head) = refl
 record Arrives (x z : ZeroNode) (more : List Car) : Type 0 where
   car : z .car ≡ x .car
   queue : queueOf z ≡ queueOf x ++ more
-  fits : z .count ≤ length (z .queue)
 
 -- the arrival appended where there is room
 append-arrives : (x : ZeroNode) (y : Car) → length (x .queue) ≡ 65 → x .count < 65 → Arrives x (appended x y) (y ∷ [])
@@ -136,7 +135,6 @@ append-arrives x y l c =
     rw (lt-ltb (x .count) 65 c) (record {
       car = refl;
       queue = rw (add-one, take-suc-set (x .queue) (x .count) (record { car = y }) room) (cars-append (take (x .count) (x .queue)) _);
-      fits = rw (add-one, length-set) (omega arith);
     })
 
 -- the arrival appended if it is kept
@@ -146,7 +144,7 @@ arriving x y l c o = go (keeps y) o
   where
     go : (b : Bool) → (b && leb 65 (x .count)) ≡ false → Arrives x (cond b (appended x y) x) (cond b (y ∷ []) [])
     go true e = append-arrives x y l (leb-false 65 (x .count) e)
-    go false e = record { car = refl; queue = sym (append-nil (queueOf x)); fits = omega arith }
+    go false e = record { car = refl; queue = sym (append-nil (queueOf x)) }
 
 -- the whole turn, with no 66th car
 turned : (z : ZeroNode) (y : Car) → length (z .queue) ≡ 65 → z .count ≤ 65 → overflows z y ≡ false
@@ -163,11 +161,6 @@ zero-car z y l c o = turned z y l c o .car ∙ sending z y l c .car
 -- its queue after its turn
 pub zero-queue : (z : ZeroNode) (y : Car) → length (z .queue) ≡ 65 → z .count ≤ 65 → overflows z y ≡ false → queueOf (zeroTurn z y) ≡ queueAfter (queueOf z) y
 zero-queue z y l c o = turned z y l c o .queue ∙ ap (λ (cs : List Car). cs ++ kept y) (sending z y l c .left)
-
--- the count of its queue after its turn
-pub zero-count : (z : ZeroNode) (y : Car) → length (z .queue) ≡ 65 → z .count ≤ 65 → overflows z y ≡ false
-    → zeroTurn z y .count ≡ length (queueAfter (queueOf z) y)
-zero-count z y l c o = sym (queue-length (zeroTurn z y) (turned z y l c o .fits)) ∙ ap length (zero-queue z y l c o)
 
 -- there is no 66th car where the queue after the step has at most 65
 pub no-overflow : (z : ZeroNode) (y : Car) → length (z .queue) ≡ 65 → z .count ≤ 65 → length (queueAfter (queueOf z) y) ≤ 65 → overflows z y ≡ false

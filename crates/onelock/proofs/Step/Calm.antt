@@ -12,7 +12,7 @@ use Rattle.usernode.specs.declared.Activity.the-variants.{Idle as Resting, ToSe
 use Rattle.usernode.specs.Node.{isIdle, wantsTrain}
 use Rattle.turns.specs.declared.Event.{Event}
 use Rattle.turns.specs.Turn.{becomes}
-use Rattle.onelock.proofs.Tests.{or-left, or-right}
+use Rattle.lists.proofs.Tests.{or-left, or-right}
 use Rattle.onelock.proofs.Train.Cells.{Cell}
 use Rattle.onelock.proofs.Line.Ring.{Line, end, user, junction, out, wanting, stepLine}
 use Rattle.onelock.proofs.Line.Numbers.{Nodes}

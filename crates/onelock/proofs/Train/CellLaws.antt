@@ -15,7 +15,7 @@ use Rattle.usernode.specs.declared.Node.{Node}
 use Rattle.usernode.specs.declared.Activity.{Activity}
 use Rattle.usernode.specs.Node.{had}
 use Rattle.tours.specs.Rules.{within}
-use Rattle.onelock.proofs.Tests.{by-value}
+use Rattle.lists.proofs.Tests.{by-value}
 use Rattle.onelock.proofs.Train.Cells.{Cell, cell, gate, All, Gates, Bare, Gateless, at, asks, request, noticed, mine, bit, fold}
 use Rattle.onelock.proofs.Train.Invariant.{NoDid, Some, Exact, Words}
 

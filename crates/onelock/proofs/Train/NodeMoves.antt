@@ -15,7 +15,7 @@ use Rattle.cars.specs.declared.Car.the-variants.{Null, Reqp, Gotp, Didv}
 use Rattle.usernode.specs.declared.Node.{Node}
 use Rattle.usernode.specs.declared.Activity.{Activity}
 use Rattle.usernode.specs.Node.{had}
-use Rattle.onelock.proofs.Tests.{by-number}
+use Rattle.lists.proofs.Tests.{by-number}
 use Rattle.onelock.proofs.Train.Cells.{Cell, cell, All, Gates, Bare, Gateless, none, asks, request, noticed, fold, home, Visits, Names, Apart}
 use Rattle.onelock.proofs.Train.Invariant.{Inv, Ok, Up, Rises, r-cell, Did, NoDid, Late, Words}
 use Rattle.onelock.proofs.Train.CellLaws.{all-both, all-map, all-split, all-join, gates-map, gates-any, gates-join, fold-bare, mine-case, Right}

@@ -5,7 +5,7 @@ use mathlib.Core.Bool.{cond}
 use lib.Dec.{eqb}
 use borrow.Author.Tests.{eqb-true, eqb-false, ne-eqb, eq-eqb}
 use Rattle.usernode.specs.declared.Node.{Node}
-use Rattle.onelock.proofs.Tests.{by-test}
+use Rattle.lists.proofs.Tests.{by-test}
 
 -- the nodes by their numbers, one of them put anew
 abbrev pub put : (ℕ → Node) → ℕ → Node → ℕ → Node

@@ -11,7 +11,7 @@ use Rattle.usernode.specs.declared.Node.{Node}
 use Rattle.usernode.specs.declared.Activity.{Activity}
 use Rattle.usernode.specs.declared.Activity.the-variants.{WaitingReqp}
 use Rattle.usernode.specs.Node.{had}
-use Rattle.onelock.proofs.Tests.{at-most-or-above}
+use Rattle.lists.proofs.Tests.{at-most-or-above}
 use Rattle.onelock.proofs.Train.Cells.{asks, request, noticed, bit, home, Visits}
 use Rattle.onelock.proofs.Train.HomeLaws.{home-new, home-old}
 use Rattle.onelock.proofs.Train.CarMoves.{Goes}

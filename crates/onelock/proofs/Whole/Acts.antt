@@ -18,7 +18,7 @@ use Rattle.usernode.specs.Node.{had, isIdle}
 use Rattle.acts.specs.declared.Action.{Action}
 use Rattle.acts.specs.declared.Action.the-variants.{Take, Release, Force}
 use Rattle.acts.specs.Actions.{wishNumber, releaseNumber, laterNumber, nodeNumber, busyWith, released, acted}
-use Rattle.onelock.proofs.Tests.{by-test}
+use Rattle.lists.proofs.Tests.{by-test}
 use Rattle.onelock.proofs.Train.Cells.{Cell, Gateless, Names, at}
 use Rattle.onelock.proofs.Train.Invariant.{Inv}
 use Rattle.onelock.proofs.Train.CellLaws.{all-map, gates-join, at-gates}

@@ -8,16 +8,16 @@ use Rattle.ring.proofs.State.act.Tie as tie
 sound-requires : tie.Need-sound-requires
 sound-requires c κs = search needs
 
-act-sound-requires : tie.Need-act-sound-requires
-act-sound-requires c κs = search needs
+handed-back-requires : tie.Need-handed-back-requires
+handed-back-requires c κs = search needs
 
 returns : tie.Need-returns
 unfolding acting
-returns c = simp (c .act-sound .ensures, c .before .if1 .taken, ← c .before .before .sound .ensures)
+returns c = simp (c .handed-back .ensures, c .before .if1 .taken, ← c .before .before .sound .ensures)
 
 returns-2 : tie.Need-returns-2
 unfolding acting actionTold actionAnswerNumber
 returns-2 c = simp (c .if1 .left, ← c .before .sound .ensures)
 
 pub act-spec : {M : Type 1} → statement M
-act-spec = tie.close (tie.spec sound-requires act-sound-requires returns returns-2)
+act-spec = tie.close (tie.spec sound-requires handed-back-requires returns returns-2)

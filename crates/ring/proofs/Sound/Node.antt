@@ -1,5 +1,5 @@
--- Of refusal 13, a user node by itself: if it and the arrival name only nodes and locks of the plan, it does so after its turn too, and after an
--- action.
+-- Of 13, a user node by itself: if it and the arrival name only nodes and locks of the plan, it does so after its turn too, and
+-- after an action.
 use Prim.Native.Nat.{ℕ, _^_, _≤_, _<_}
 use mathlib.Core.Path.{_≡_, refl}
 use mathlib.Core.Bool.{Bool, true, _&&_, _||_}
@@ -26,7 +26,7 @@ use Rattle.acts.specs.declared.Action.{Action}
 use Rattle.acts.specs.declared.Action.the-variants.{Take, Release, Force}
 use Rattle.acts.specs.Actions.{busyWith, released, acted}
 use Rattle.usernode.specs.Sound.{activityNames, lettingAllowed, nodeSound}
-use Rattle.onelock.proofs.Tests.{and-both, or-first, or-by-first, by-test}
+use Rattle.lists.proofs.Tests.{and-both, or-first, or-by-first, by-test}
 
 -- five tests that hold together hold each
 all-five : (a b c d e : Bool) → (a && b && c && d && e) ≡ true → (a ≡ true) × (b ≡ true) × (c ≡ true) × (d ≡ true) × (e ≡ true)

@@ -1,35 +1,25 @@
--- Of refusal 13, a junction and the zero node by themselves: if they and the cars that arrive name only nodes and locks of the plan, they do so after
--- their turn too.
-use Prim.Native.Nat.{ℕ, _-_, _^_, _<_}
+-- Of 13, a junction by itself: if it and the cars that arrive name only nodes and locks of the plan, it does so after its turn
+-- too.
+use Prim.Native.Nat.{ℕ, _^_, _<_}
 use mathlib.Core.Path.{_≡_, refl}
 use mathlib.Core.Bool.{Bool, true, _&&_}
-use mathlib.Core.List.{List, _∷_}
-use lib.Dec.{eqb, ltb, leb}
-use lib.ListN.{take, drop}
+use lib.Dec.{ltb}
 use borrow.Author.Tests.{lt-ltb, ltb-true}
 use Rattle.words.specs.Words.{has, allBelow}
 use Rattle.words.proofs.Sets.{with-within, without-within}
 use Rattle.lists.proofs.Laws.{and-left, and-right}
+use Rattle.lists.proofs.Tests.{and-both, by-test}
 use Rattle.cars.specs.declared.Notice.{Notice}
 use Rattle.cars.specs.declared.Car.{Car}
 use Rattle.cars.specs.declared.Car.the-variants.{Idle, Token, Null, Reqp, Failp, Dov, Gotp, Didv}
 use Rattle.cars.specs.Cars.{multiring, names, noticeNames, carNames}
-use Rattle.junction.specs.declared.Junction.{Junction}
 use Rattle.tours.specs.declared.JunctionRule.{JunctionRule}
 use Rattle.tours.specs.declared.JunctionRule.the-variants.{GoesOn, FailsReqp, Begins, Drops, TokenOut, CarOut, SetsBit, ClearsBit, Ends}
 use Rattle.tours.specs.Rules.{within, outside, ifTrain, onGotp, onDidv, inTour}
+use Rattle.junction.specs.declared.Junction.{Junction}
 use Rattle.junction.specs.Turn.{junctionRule, shadow, joins, junctionApply, junctionTurn}
 use Rattle.junction.specs.Sound.{junctionSound}
-use Rattle.zeronode.specs.declared.Slot.{Slot}
-use Rattle.zeronode.specs.declared.ZeroNode.{ZeroNode}
-use Rattle.zeronode.specs.declared.ZeroRule.{ZeroRule}
-use Rattle.zeronode.specs.declared.ZeroRule.the-variants.{SendsIdle, SendsToken, SendsHead}
-use Rattle.zeronode.specs.Rules.{queuePlaces, emptySlot, onToken, onHead, zeroRule, keeps}
-use Rattle.zeronode.specs.Turn.{shifted, headOff, sends, appended, arrives, zeroTurn}
-use Rattle.zeronode.specs.Sound.{placeNames}
-use Rattle.onelock.proofs.Tests.{and-both, by-test}
-use Rattle.onelock.proofs.State.SoundNode.{names-lock}
-use Rattle.onelock.proofs.State.Each.{Each, each-set, each-drop, each-take, each-append, each-cons}
+use Rattle.ring.proofs.Sound.Node.{names-lock}
 
 module _ (rules nodes locks : ℕ) where
   -- whether what a junction's rule names is there
@@ -139,80 +129,3 @@ module _ (rules nodes locks : ℕ) where
   junction-sound low high wants arrival out j a o e =
       junction-applied arrival out j (junctionRule low high wants arrival out j) a o (junction-in-plan j e .2)
       (by-test Named (j .tour) (λ t. tour-names (j .train) low high out o) (λ t. outside-names (j .word) wants arrival a))
-
-  -- a slot's car names only what is there
-  abbrev SlotNames : Slot → Type 0
-  SlotNames slot = carNames rules nodes locks (slot .car) ≡ true
-
-  -- what 13 asks of the zero node's car and of every place of its queue
-  pub record ZeroInPlan (node : ZeroNode) : Type 0 where
-    pub sent : carNames rules nodes locks (node .car) ≡ true
-    pub queue : (i : ℕ) → placeNames rules nodes locks node i ≡ true
-
-  -- an empty slot names nothing
-  pub empty-names : SlotNames emptySlot
-  unfolding emptySlot carNames
-  empty-names = refl
-
-  -- whether what the zero node sends names only what is there
-  zeroNames : ZeroRule → Bool
-  zeroNames SendsIdle = true
-  zeroNames SendsToken = true
-  zeroNames (SendsHead head) = carNames rules nodes locks head
-
-  -- a token at the head is sent or has to wait: it names nothing
-  token-names : (arrival : Car) → zeroNames (onToken arrival) ≡ true
-  unfolding zeroNames onToken
-  token-names Idle = refl
-  token-names Token = refl
-  token-names Null = refl
-  token-names (Reqp tag) = refl
-  token-names (Failp tag) = refl
-  token-names (Dov tag) = refl
-  token-names (Gotp notice) = refl
-  token-names (Didv notice) = refl
-
-  -- what is sent with this car at the head names only what that names
-  head-names : (head arrival : Car) → carNames rules nodes locks head ≡ true → zeroNames (onHead head arrival) ≡ true
-  unfolding zeroNames onHead
-  head-names Token arrival c = token-names arrival
-  head-names Idle arrival c = c
-  head-names Null arrival c = c
-  head-names (Reqp tag) arrival c = c
-  head-names (Failp tag) arrival c = c
-  head-names (Dov tag) arrival c = c
-  head-names (Gotp notice) arrival c = c
-  head-names (Didv notice) arrival c = c
-
-  -- the head taken off, each place of the queue still names only what is there
-  shifted-names : (queue : List Slot) (count : ℕ) → Each SlotNames emptySlot queue → Each SlotNames emptySlot (shifted queue count)
-  unfolding shifted
-  shifted-names queue count h =
-      each-append SlotNames emptySlot (take (count - 1) (drop 1 queue)) (emptySlot ∷ drop count queue)
-      (each-take SlotNames emptySlot empty-names (count - 1) (drop 1 queue) (each-drop SlotNames emptySlot 1 queue h))
-      (each-cons SlotNames emptySlot emptySlot (drop count queue) empty-names (each-drop SlotNames emptySlot count queue h))
-
-  -- the zero node that sends idle, the token or the head is still so
-  sends-in-plan : (node : ZeroNode) (r : ZeroRule) → zeroNames r ≡ true → ZeroInPlan node → ZeroInPlan (sends node r)
-  unfolding sends headOff zeroNames placeNames carNames
-  sends-in-plan node SendsIdle r f = record { sent = refl; queue = f .queue }
-  sends-in-plan node SendsToken r f = record { sent = refl; queue = shifted-names (node .queue) (node .count) (f .queue) }
-  sends-in-plan node (SendsHead head) r f = record { sent = r; queue = shifted-names (node .queue) (node .count) (f .queue) }
-
-  -- the arrival appended, or not, it is still so
-  arrives-in-plan : (node : ZeroNode) (arrival : Car) → carNames rules nodes locks arrival ≡ true → ZeroInPlan node → ZeroInPlan (arrives node arrival)
-  unfolding arrives appended placeNames
-  arrives-in-plan node arrival c f =
-      by-test ZeroInPlan (keeps arrival)
-      (λ e. by-test ZeroInPlan (ltb (node .count) queuePlaces)
-      (λ l. record { sent = f .sent; queue = each-set SlotNames emptySlot (node .queue) (node .count) (record { car = arrival }) (f .queue) c }) (λ l. f))
-      (λ e. f)
-
-  -- after its turn the zero node is still so
-  pub zero-in-plan : (node : ZeroNode) (arrival : Car) → carNames rules nodes locks arrival ≡ true → ZeroInPlan node → ZeroInPlan (zeroTurn node arrival)
-  unfolding zeroTurn zeroRule zeroNames placeNames
-  zero-in-plan node arrival c f =
-      by-test ZeroInPlan (leb (node .count) queuePlaces)
-      (λ l. arrives-in-plan (sends node (zeroRule node arrival)) arrival c
-      (sends-in-plan node (zeroRule node arrival)
-      (by-test (λ r. zeroNames r ≡ true) (eqb (node .count) 0) (λ e. refl) (λ e. head-names _ arrival (f .queue 0))) f)) (λ l. f)

@@ -1,4 +1,4 @@
--- Small laws of tests and of numbers that several folders use.
+-- Small laws of tests and of numbers that several crates use.
 use Prim.Native.Nat.{ℕ, _≤_, _<_}
 use mathlib.Core.Path.{_≡_, refl, sym, subst}
 use mathlib.Core.Bool.{Bool, true, false, cond, _&&_, _||_, true≢false}
