@@ -4,12 +4,12 @@ use Prim.Native.Nat.{ℕ, _≤_, _<_}
 use mathlib.Core.Path.{_≡_, refl}
 use mathlib.Core.Bool.{Bool, true, false, cond, not, _&&_}
 use native.Mathlib.Omega.{arith}
-use lib.Dec.{leb, ltb}
+use lib.Dec.{eqb, leb, ltb}
 use lib.ListN.{getD}
 use borrow.Author.Tests.{leb-true, ltb-true}
 use Rattle.lists.specs.Loops.{every}
 use Rattle.lists.proofs.Laws.{and-left, and-right, every-at}
-use Rattle.lists.proofs.Tests.{and-both}
+use Rattle.lists.proofs.Tests.{and-both, by-test}
 use Rattle.cars.specs.Cars.{isNode}
 use Rattle.plan.specs.declared.Plan.{Plan}
 use Rattle.plan.specs.Plan.{inRange, nodeCount, junctionCount}
@@ -24,7 +24,7 @@ use Rattle.ring.specs.State.{restNode, restJunction, nodeOf}
 use Rattle.ring.specs.Sound.{zeroPasses, nodePasses, junctionPasses, sound}
 use Rattle.ring.specs.Actions.{actionNumber, actedState, handedBack, acting}
 use Rattle.lists.specs.Refusal.{refusedIf}
-use Rattle.ring.specs.Step.{moving, stepping}
+use Rattle.ring.specs.Step.{StepTold, nextState, stepNumber, refused, done, moving, stepping}
 
 -- what is 0 unless a test holds is bounded by its bound where the test holds
 bounded : (b : Bool) (n most : ℕ) → (b ≡ true → cond b n 0 ≤ most) → cond b n 0 ≤ most
@@ -120,6 +120,13 @@ pub junction-passes : (state : State) → sound state ≡ true → (place : ℕ)
 unfolding junctionPasses
 junction-passes state e place l =
     every-at (junctionPasses state (nodeCount (state .plan))) (junctionCount (state .plan)) place (passed state e .junctions) l
+
+-- a step keeps the plan
+pub stepping-plan : (state : State) → stepping state .state .plan ≡ state .plan
+unfolding stepping moving done nextState refused
+stepping-plan state =
+    by-test (λ (t : StepTold). t .state .plan ≡ state .plan) (sound state)
+    (λ e. by-test (λ (t : StepTold). t .state .plan ≡ state .plan) (eqb (stepNumber state) 0) (λ z. refl) (λ z. refl)) (λ e. refl)
 
 -- a state that passes is stepped: 14, 15 or done
 pub step-of-sound : (state : State) → sound state ≡ true → stepping state ≡ moving state

@@ -3,3 +3,4 @@ pub mod Walking
 pub mod Opened
 pub mod Sound
 pub mod Theorems
+pub mod Advancing

@@ -13,6 +13,7 @@ use usernode::Node;
 use zeronode::ZeroNode;
 
 mod actions;
+mod advance;
 mod route;
 mod soundness;
 mod starting;

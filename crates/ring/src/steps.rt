@@ -26,7 +26,7 @@ impl State {
     }
 
     // A step of a state that 13 does not refuse: the plan in range is what the walk needs of it.
-    fn moving(self) -> Stepped
+    pub(crate) fn moving(self) -> Stepped
         requires { ⌜ inRange (self .plan) ≡ true ⌝ }
         ensures { λ r. ⌜ stepTold r ≡ moving self ⌝ }
     {
