@@ -7,7 +7,7 @@ use mathlib.Core.List.{List}
 use native.Mathlib.Numerals.{add-one}
 use native.Mathlib.Omega.{arith}
 use lib.ListN.{getD}
-use Rattle.lists.specs.Loops.{every, iterate}
+use Rattle.lists.specs.Loops.{iterate}
 use Rattle.lists.proofs.Laws.{every-at, iterate-first, iterate-same, inOrder-same, some-same}
 use Rattle.words.specs.Words.{has}
 use Rattle.plan.specs.Plan.{nodeCount}
@@ -19,33 +19,21 @@ use Rattle.ring.specs.declared.Happening.{Happening}
 use Rattle.ring.specs.State.{restNode}
 use Rattle.ring.specs.Walk.{quiet}
 use Rattle.ring.specs.Step.{stepping}
+use Rattle.ring.specs.Advance.{noEvent, silent}
 use Rattle.tally.specs.declared.Tally.{Tally}
 use Rattle.tally.specs.Tally.{counted, busy, busyLock, busyCounts, stepTally, noEvents, silentTally}
 use Rattle.tally.proofs.Laws.{none-tally, no-events}
 use Rattle.tally.proofs.Kept.{step-keeps}
 
--- no event
-unfoldable pub eventless : Event → Bool
-eventless Nothing = true
-eventless (Granted lock) = false
-eventless (Failed lock) = false
-eventless (Lost lock) = false
-eventless (Back lock) = false
-eventless (Sent lock) = false
-
--- which is Nothing
-eventless-nothing : (event : Event) → eventless event ≡ true → event ≡ Nothing
-unfolding eventless
-eventless-nothing Nothing e = refl
-eventless-nothing (Granted lock) e = cc
-eventless-nothing (Failed lock) e = cc
-eventless-nothing (Lost lock) e = cc
-eventless-nothing (Back lock) e = cc
-eventless-nothing (Sent lock) e = cc
-
--- a step in which no node has an event
-unfoldable pub stepSilent : State → Bool
-stepSilent state = every (λ place. eventless (getD (stepping state .events) place quiet .event)) (nodeCount (state .plan))
+-- where nothing happened, the event is Nothing
+no-event : (event : Event) → noEvent event ≡ true → event ≡ Nothing
+unfolding noEvent
+no-event Nothing e = refl
+no-event (Granted lock) e = cc
+no-event (Failed lock) e = cc
+no-event (Lost lock) e = cc
+no-event (Back lock) e = cc
+no-event (Sent lock) e = cc
 
 -- nodes that hold the same keep the same locks busy
 pub busy-same : (old new : List Node) (count lock : ℕ)
@@ -66,11 +54,11 @@ same-tally old new events count locks tally b e =
     λ i. record { busy = busies i; grants = told i .grants; failed = told i .failed }
 
 -- a silent step
-module _ (state : State) (none : stepSilent state ≡ true) where
+module _ (state : State) (none : silent state ≡ true) where
   -- at each node of the plan there was no event
   pub silent-place : (place : ℕ) → place < nodeCount (state .plan) → getD (stepping state .events) place quiet .event ≡ Nothing
-  unfolding stepSilent
-  silent-place place below = eventless-nothing _ (every-at _ (nodeCount (state .plan)) place none below)
+  unfolding silent
+  silent-place place below = no-event _ (every-at _ (nodeCount (state .plan)) place none below)
 
   -- the same locks are busy after the step as before it
   silent-busy : (lock : ℕ) → busy (stepping state .state .nodes) (min (nodeCount (state .plan)) 64) lock ≡ busy (state .nodes) (min (nodeCount (state .plan)) 64) lock
