@@ -1,23 +1,23 @@
 -- The course of a run, moved on by the least amount: past a node with no event, by a step, by an item, to the end.
 use Prim.Native.Nat.{ℕ, zero, suc, _+_, _-_, _≤_, _<_}
 use mathlib.Core.Path.{_≡_, refl, _∙_, sym, ap}
-use mathlib.Core.Bool.{Bool, true, false, cond, _&&_}
+use mathlib.Core.Bool.{true, false, cond}
 use mathlib.Core.List.{List, []}
 use native.Mathlib.Omega.{arith}
-use lib.Dec.{eqb, leb, ltb}
+use lib.Dec.{eqb, ltb}
 use borrow.Author.Tests.{lt-ltb, le-ltb}
-use Rattle.plan.specs.declared.Plan.{Plan}
-use Rattle.plan.specs.Plan.{inRange, nodeCount}
-use Rattle.plan.proofs.Laws.{nodes-count-most}
-use Rattle.zeronode.specs.Rules.{queuePlaces}
+use Rattle.lists.proofs.Tests.{by-test}
+use Rattle.plan.specs.Plan.{nodeCount}
 use Rattle.acts.specs.declared.Action.{Action}
 use Rattle.items.specs.declared.Item.{Item}
 use Rattle.items.specs.declared.Item.the-variants.{Steps, Act}
 use Rattle.items.specs.declared.ItemAnswer.the-variants.{Found}
 use Rattle.items.specs.Items.{readAt}
 use Rattle.ring.specs.declared.State.{State}
-use Rattle.ring.specs.Actions.{actionNumber, actedState, handedBack, actingSound}
-use Rattle.ring.specs.Step.{StepTold, stepNumber, nextState, refused, done, moving, steppingSound}
+use Rattle.ring.specs.State.{Told}
+use Rattle.ring.specs.Sound.{sound}
+use Rattle.ring.specs.Actions.{actionNumber, actedState, handedBack, acting}
+use Rattle.ring.proofs.Laws.{nodes-most as count-most, stepping-plan}
 use Rattle.course.specs.declared.Run.{Run}
 use Rattle.course.specs.declared.Phase.the-variants.{Items, Ended, Cut}
 use Rattle.course.specs.Standing.{nodesOf, reachedNext, oneStep, past, stepsItem, actionItem, atEnd}
@@ -25,38 +25,22 @@ use Rattle.course.specs.Wording.{eventHere, isEvent, eventLine, actionLi
 use Rattle.course.specs.Whole.{Course, says, telling, tellingAll, closingAll, manySteps, items, itemsFrom, onItems, onSteps, working, courseIn, course, andOthers}
 use Rattle.course.proofs.Found.{items-found, items-none}
 
--- the plan stays as it is
-state-plan : (b : Bool) (x y : State) (p : Plan) → x .plan ≡ p → y .plan ≡ p → cond b x y .plan ≡ p
-state-plan true x y p e f = e
-state-plan false x y p e f = f
+-- an action keeps the plan
+acting-plan : (action : Action) (state : State) (node lock : ℕ) → acting action state node lock .state .plan ≡ state .plan
+unfolding acting handedBack actedState
+acting-plan action state node lock =
+    by-test (λ (t : Told). t .state .plan ≡ state .plan) (sound state)
+    (λ e. by-test (λ (s : State). s .plan ≡ state .plan) (eqb (actionNumber action state node lock) 0) (λ z. refl) (λ z. refl)) (λ e. refl)
 
-acting-plan : (action : Action) (state : State) (node lock : ℕ) → actingSound action state node lock .state .plan ≡ state .plan
-unfolding actingSound handedBack actedState
-acting-plan action state node lock = state-plan (eqb (actionNumber action state node lock) 0) _ state (state .plan) refl refl
-
-told-plan : (b : Bool) (x y : StepTold) (p : Plan) → x .state .plan ≡ p → y .state .plan ≡ p → cond b x y .state .plan ≡ p
-told-plan true x y p e f = e
-told-plan false x y p e f = f
-
-stepping-plan : (state : State) → steppingSound state .state .plan ≡ state .plan
-unfolding steppingSound moving done nextState refused
-stepping-plan state =
-    told-plan (inRange (state .plan) && leb (state .zeroth .count) queuePlaces) (moving state) (refused 13 state) (state .plan)
-    (told-plan (eqb (stepNumber state) 0) (done state) (refused (stepNumber state) state) (state .plan) refl refl) refl
-
+-- so does a step
 pub step-nodes : (run : Run) → nodesOf (oneStep run) ≡ nodesOf run
 unfolding nodesOf oneStep reachedNext
 step-nodes run = ap nodeCount (stepping-plan (run .reached .state))
 
 -- there are places for all its nodes
-count-most : (plan : Plan) (b : Bool) → inRange plan ≡ b → nodeCount plan ≤ 64
-unfolding nodeCount
-count-most plan true e = nodes-count-most plan e
-count-most plan false e = rw e (omega arith)
-
 pub nodes-most : (run : Run) → nodesOf run ≤ 64
 unfolding nodesOf
-nodes-most run = count-most (run .reached .state .plan) (inRange (run .reached .state .plan)) refl
+nodes-most run = count-most (run .reached .state .plan)
 
 -- a run that is at its items
 pub record AtItems (run : Run) : Type 0 where

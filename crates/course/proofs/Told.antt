@@ -6,30 +6,20 @@ use Rattle.acts.specs.declared.Action.{Action}
 use Rattle.acts.specs.Actions.{actionAnswerNumber}
 use Rattle.ring.specs.declared.State.{State}
 use Rattle.ring.specs.declared.Started.{Started}
-use Rattle.ring.specs.declared.Stepped.{Stepped}
 use Rattle.ring.specs.declared.Acted.{Acted}
 use Rattle.ring.specs.State.{Told, startTold, starting, startState}
-use Rattle.ring.specs.Actions.{actionTold, actingSound}
-use Rattle.ring.specs.Step.{StepTold, stepTold, steppingSound}
+use Rattle.ring.specs.Actions.{actionTold, acting}
 
 pub started-state : (r : Started) (plan : Plan) → startTold r ≡ starting plan → r .state ≡ startState plan
 unfolding startTold starting
 started-state r plan e = ap (λ (t : Told). t .state) e
 
-pub stepped-state : (r : Stepped) (state : State) → stepTold r ≡ steppingSound state → r .state ≡ steppingSound state .state
-unfolding stepTold
-stepped-state r state e = ap (λ (t : StepTold). t .state) e
-
-pub stepped-events : (r : Stepped) (state : State) → stepTold r ≡ steppingSound state → r .events ≡ steppingSound state .events
-unfolding stepTold
-stepped-events r state e = ap (λ (t : StepTold). t .events) e
-
-pub acted-state : (r : Acted) (action : Action) (state : State) (node lock : ℕ) → actionTold r ≡ actingSound action state node lock
-    → r .state ≡ actingSound action state node lock .state
+pub acted-state : (r : Acted) (action : Action) (state : State) (node lock : ℕ) → actionTold r ≡ acting action state node lock
+    → r .state ≡ acting action state node lock .state
 unfolding actionTold
 acted-state r action state node lock e = ap (λ (t : Told). t .state) e
 
-pub acted-number : (r : Acted) (action : Action) (state : State) (node lock : ℕ) → actionTold r ≡ actingSound action state node lock
-    → actionAnswerNumber (r .answer) ≡ actingSound action state node lock .number
+pub acted-number : (r : Acted) (action : Action) (state : State) (node lock : ℕ) → actionTold r ≡ acting action state node lock
+    → actionAnswerNumber (r .answer) ≡ acting action state node lock .number
 unfolding actionTold
 acted-number r action state node lock e = ap (λ (t : Told). t .number) e

@@ -12,12 +12,14 @@ use Rattle.items.specs.declared.ItemAnswer.the-variants.{Found}
 use Rattle.items.specs.Items.{readAt}
 use Rattle.course.specs.declared.Run.{Run}
 use Rattle.course.specs.declared.Phase.the-variants.{Items, Ended, Cut}
-use Rattle.course.specs.Standing.{nodesOf, oneStep, past, stepsItem, atEnd}
+use Rattle.course.specs.Standing.{nodesOf, past, stepsItem, atEnd}
 use Rattle.course.specs.Wording.{eventHere, isEvent}
 use Rattle.course.specs.Whole.{itemsFrom, course, andOthers, stepsIn}
 use Rattle.course.specs.Ready.{answerHere, isAction, readyIn, ready}
+use Rattle.course.specs.Several.{AtOnce, afterSteps, severalSteps}
 use Rattle.course.proofs.Found.{found-moves, items-found}
-use Rattle.course.proofs.Moves.{AtItems, past-items, step-items, steps-items, step-nodes, nodes-most, on-quiet, on-step, on-steps, on-cut, on-end}
+use Rattle.course.proofs.Moves.{AtItems, past-items, steps-items, nodes-most, on-quiet, on-steps, on-cut, on-end}
+use Rattle.course.proofs.Several.{done-at-once, several-items, several-nodes, on-several}
 
 -- what is so in the loop: the run is at its items, its course is the one it had, and it has so many nodes
 pub record Way (ceiling : ℕ) (schedule : List ℕ) (nodes : ℕ) (start run : Run) : Type 0 where
@@ -47,15 +49,15 @@ way-past ceiling schedule nodes start run w below e =
       most = w .most;
     }
 
--- a step
-pub way-step : (ceiling : ℕ) (schedule : List ℕ) (nodes : ℕ) (start run : Run) → Way ceiling schedule nodes start run → nodes ≤ run .next → 0 < run .left
-    → run .reached .steps < ceiling → Way ceiling schedule nodes start (oneStep run)
-way-step ceiling schedule nodes start run w told left below =
+-- several steps
+pub way-several : (ceiling : ℕ) (schedule : List ℕ) (nodes : ℕ) (start run : Run) (limit : ℕ) → Way ceiling schedule nodes start run → nodes ≤ run .next
+    → AtOnce ceiling (run .reached .steps) (run .left) limit → Way ceiling schedule nodes start (severalSteps limit run)
+way-several ceiling schedule nodes start run limit w told o =
     let all : nodesOf run ≤ run .next = omega (arith, w .count) in
     record {
-      going = step-items run (w .going);
-      same = sym (on-step ceiling schedule run (w .going) all left below) ∙ w .same;
-      count = w .count ∙ sym (step-nodes run);
+      going = several-items limit run (w .going);
+      same = sym (on-several ceiling schedule limit run (w .going) all o) ∙ w .same;
+      count = w .count ∙ sym (several-nodes limit run);
       most = w .most;
     }
 
@@ -78,10 +80,12 @@ pub past-nearer : (schedule : List ℕ) (nodes : ℕ) (run : Run) → run .next 
 unfolding toGo past
 past-nearer schedule nodes run below = omega arith
 
-pub step-nearer : (schedule : List ℕ) (nodes : ℕ) (run : Run) → nodes ≤ 64 → nodes ≤ run .next → 0 < run .left
-    → toGo schedule nodes (oneStep run) < toGo schedule nodes run
-unfolding toGo oneStep
-step-nearer schedule nodes run most told left = omega arith
+pub several-nearer : (ceiling : ℕ) (schedule : List ℕ) (nodes : ℕ) (run : Run) (limit : ℕ) → nodes ≤ 64 → nodes ≤ run .next
+    → AtOnce ceiling (run .reached .steps) (run .left) limit → toGo schedule nodes (severalSteps limit run) < toGo schedule nodes run
+unfolding toGo severalSteps afterSteps
+several-nearer ceiling schedule nodes run limit most told o =
+    let d = done-at-once ceiling (run .reached .steps) (run .left) limit (run .reached .state) _ refl o in
+    omega (arith, d .some, d .most)
 
 pub steps-nearer : (schedule : List ℕ) (nodes : ℕ) (run : Run) (n : ℕ) → run .left ≤ 0 → readAt schedule (run .at) .answer ≡ Found (Steps n)
     → toGo schedule nodes (stepsItem n run) < toGo schedule nodes run

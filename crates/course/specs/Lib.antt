@@ -2,3 +2,4 @@ pub mod Standing
 pub mod Wording
 pub mod Whole
 pub mod Ready
+pub mod Several

@@ -7,9 +7,9 @@ use lib.ListN.{replicate}
 use Rattle.plan.specs.Plan.{nodePlaces, nodeCount}
 use Rattle.acts.specs.declared.Action.{Action}
 use Rattle.ring.specs.State.{startState}
-use Rattle.ring.specs.Actions.{actingSound}
+use Rattle.ring.specs.Actions.{acting}
 use Rattle.ring.specs.Walk.{quiet}
-use Rattle.ring.specs.Step.{steppingSound}
+use Rattle.ring.specs.Step.{stepping}
 use Rattle.tally.specs.Tally.{emptyTally, stepTally}
 use Rattle.nightfile.specs.File.{fileNumber, planPart, planOf}
 use Rattle.course.specs.declared.Reached.{Reached}
@@ -41,8 +41,8 @@ beginning file =
 unfoldable pub reachedNext : Reached → Reached
 reachedNext reached =
     record {
-      state = steppingSound (reached .state) .state;
-      tally = stepTally (steppingSound (reached .state) .state .nodes) (steppingSound (reached .state) .events) (nodeCount (reached .state .plan)) (reached .state .plan .locks) (reached .tally);
+      state = stepping (reached .state) .state;
+      tally = stepTally (stepping (reached .state) .state .nodes) (stepping (reached .state) .events) (nodeCount (reached .state .plan)) (reached .state .plan .locks) (reached .tally);
       steps = reached .steps + 1;
     }
 
@@ -53,7 +53,7 @@ oneStep run =
       reached = reachedNext (run .reached);
       at = run .at;
       left = run .left - 1;
-      events = steppingSound (run .reached .state) .events;
+      events = stepping (run .reached .state) .events;
       next = 0;
       phase = run .phase;
       over = run .over;
@@ -73,7 +73,7 @@ stepsItem steps run =
 unfoldable pub actionItem : Action → ℕ → ℕ → Run → Run
 actionItem action node lock run =
     record {
-      reached = record { state = actingSound action (run .reached .state) node lock .state; tally = run .reached .tally; steps = run .reached .steps };
+      reached = record { state = acting action (run .reached .state) node lock .state; tally = run .reached .tally; steps = run .reached .steps };
       at = run .at + 3;
       left = run .left;
       events = run .events;

@@ -8,7 +8,7 @@ use Rattle.acts.specs.declared.Action.{Action}
 use Rattle.acts.specs.declared.Action.the-variants.{Take, Release, Force}
 use Rattle.turns.specs.declared.Event.{Event}
 use Rattle.turns.specs.Turn.{eventLetter, eventLock}
-use Rattle.ring.specs.Actions.{actingSound}
+use Rattle.ring.specs.Actions.{acting}
 use Rattle.ring.specs.Walk.{quiet}
 use Rattle.tally.specs.Tally.{sumOf}
 use Rattle.lines.specs.Line.{line}
@@ -45,7 +45,7 @@ actionLetter Force = 70
 
 -- the number of an action's refusal; 0: accepted
 unfoldable pub actionRefusal : Action → ℕ → ℕ → Run → ℕ
-actionRefusal action node lock run = actingSound action (run .reached .state) node lock .number
+actionRefusal action node lock run = acting action (run .reached .state) node lock .number
 
 -- "X: a refused action, with its number and the item's place from 0": which item of the schedule it is
 unfoldable pub actionLine : Action → ℕ → ℕ → Run → Line

@@ -2,8 +2,9 @@
 ghost use mathlib.Core.Path.{_≡_};
 ghost use mathlib.Core.Bool.{true, false};
 ghost use Rattle.course.specs.declared.Phase.the-variants.{Items};
-ghost use Prim.Native.Nat.{_-_, _^_, _≤_, _<_};
-ghost use Rattle.course.specs.Standing.{nodesOf, oneStep, atEnd};
+ghost use Prim.Native.Nat.{_-_, _^_, _≤_, min};
+ghost use Rattle.course.specs.Standing.{nodesOf, atEnd};
+ghost use Rattle.course.specs.Several.{AtOnce, severalTally, severalSteps};
 ghost use Rattle.course.specs.Wording.{isEvent};
 ghost use Rattle.course.specs.Whole.{course};
 ghost use Rattle.course.specs.Ready.{ready};
@@ -11,6 +12,8 @@ use crate::Phase;
 use crate::Reached;
 use crate::Run;
 use crate::ahead;
+use ring::Advanced;
+use tally::Tally;
 use turns::Event;
 
 // Whether something happened.
@@ -18,6 +21,18 @@ fn is_event(event: Event) -> bool
     ensures { λ r. ⌜ r ≡ isEvent event ⌝ }
 {
     turns::event_letter(event) != 0
+}
+
+// The steps to do at once: those that are left, but no more than up to the ceiling.
+fn at_once(left: u16, steps: u64, ceiling: u64) -> u16
+    requires { ⌜ steps ≤ ceiling ⌝ }
+    ensures { λ r. ⌜ r ≡ min left (ceiling - steps) ⌝ }
+{
+    let room = ceiling - steps;
+    if room < left as u64 {
+        return room as u16;
+    }
+    left
 }
 
 impl Run {
@@ -29,28 +44,41 @@ impl Run {
         plan.nodes()
     }
 
-    // A step of the item: one fewer left, its events to be told from the first node on.
-    fn one_step(self) -> Run
-        requires { ⌜ (1 ≤ self .left) × (self .reached .steps < 2 ^ 64 - 1) ⌝ }
-        ensures { λ r. ⌜ r ≡ oneStep self ⌝ }
+    // What is counted after these steps: all but the last are without an event.
+    fn several_tally(self, advanced: Advanced) -> Tally
+        requires { ⌜ 1 ≤ advanced .done ⌝ }
+        ensures { λ r. ⌜ r ≡ severalTally advanced self ⌝ }
+    {
+        let before = self.reached.state.nodes;
+        let after = advanced.state.nodes;
+        let events = advanced.events;
+        let tally = self.reached.tally;
+        let count = self.nodes();
+        let locks = self.reached.state.plan.locks;
+        let silent = tally::silent_tally(before, count, locks, advanced.done - 1, tally);
+        tally::step_tally(after, events, count, locks, silent)
+    }
+
+    // At most so many steps of the item, up to the first that has an event: those done are not left any more, and the last one's
+    // events are to be told from the first node on.
+    fn several_steps(self, limit: u16) -> Run
+        requires { ⌜ AtOnce (2 ^ 64 - 1) (self .reached .steps) (self .left) limit ⌝ }
+        ensures { λ r. ⌜ r ≡ severalSteps limit self ⌝ }
     {
         let state = self.reached.state;
-        let plan = state.plan;
-        let stepped = state.step_sound();
-        let next = stepped.state;
-        let nodes = next.nodes;
-        let events = stepped.events;
-        let before = self.reached.tally;
-        let tally = tally::step_tally(nodes, events, plan.nodes(), plan.locks, before);
+        let advanced = state.advance(limit);
+        let tally = self.several_tally(advanced);
+        let next = advanced.state;
+        let events = advanced.events;
         let phase = self.phase;
         Run {
             reached: Reached {
                 state: next,
                 tally: tally,
-                steps: self.reached.steps + 1,
+                steps: self.reached.steps + advanced.done as u64,
             },
             at: self.at,
-            left: self.left - 1,
+            left: self.left - advanced.done,
             events: events,
             next: 0,
             phase: phase,
@@ -94,7 +122,8 @@ impl Run {
                 if ceiling <= run.reached.steps {
                     return run.at_end(Phase::Cut);
                 }
-                run = run.one_step();
+                let limit = at_once(run.left, run.reached.steps, ceiling);
+                run = run.several_steps(limit);
             } else {
                 let found = ahead::look_ahead(schedule, run.at);
                 if found.action {

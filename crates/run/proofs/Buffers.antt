@@ -17,14 +17,15 @@ use Rattle.course.specs.declared.Line.{Line}
 use Rattle.course.specs.declared.Run.{Run}
 use Rattle.course.specs.declared.Phase.{Phase}
 use Rattle.course.specs.declared.Phase.the-variants.{Items, Ended, Cut, Refused}
-use Rattle.course.specs.Standing.{nodesOf, oneStep, past, stepsItem, atEnd}
+use Rattle.course.specs.Standing.{nodesOf, past, stepsItem, atEnd}
 use Rattle.course.specs.Wording.{text, eventHere, isEvent}
 use Rattle.course.specs.Whole.{Course, says, silence, course, andOthers}
 use Rattle.course.specs.Ready.{isAct, isAction, readyIn, ready}
+use Rattle.course.specs.Several.{AtOnce, severalSteps}
 use Rattle.run.specs.Current.{sayingNow}
 use Rattle.run.specs.Filling.{texts, fitting, stopsAt, written, filling, inBuffers, afterBuffers}
 use Rattle.run.proofs.Ready.{ready-goes, course-over}
-use Rattle.course.proofs.Way.{Way, toGo, sets-out, way-past, way-step, way-steps, past-nearer, step-nearer, steps-nearer, at-event, at-action, at-ceiling, at-items-end}
+use Rattle.course.proofs.Way.{Way, toGo, sets-out, way-past, way-several, way-steps, past-nearer, several-nearer, steps-nearer, at-event, at-action, at-ceiling, at-items-end}
 use Rattle.run.proofs.Fills.{stopsIn, stops-fits, stops-full, written-fits, written-full, fewer-lines}
 
 -- the run at its next line: the course is the same
@@ -43,7 +44,8 @@ at-node ceiling schedule nodes start run false w again below e =
 at-step : (ceiling : ℕ) (schedule : List ℕ) (nodes : ℕ) (start run : Run) (room : Bool) → Way ceiling schedule nodes start run → Again ceiling schedule nodes start run
     → nodes ≤ run .next → 0 < run .left → ltb (run .reached .steps) ceiling ≡ room → Next ceiling schedule start
 at-step ceiling schedule nodes start run true w again told left e =
-    again (oneStep run) (way-step ceiling schedule nodes start run w told left (ltb-true _ _ e)) (step-nearer schedule nodes run (w .most) told left)
+    let o : AtOnce ceiling (run .reached .steps) (run .left) 1 = record { some = omega arith; most = left; room = omega (arith, ltb-true (run .reached .steps) ceiling e) } in
+    again (severalSteps 1 run) (way-several ceiling schedule nodes start run 1 w told o) (several-nearer ceiling schedule nodes run 1 (w .most) told o)
 at-step ceiling schedule nodes start run false w again told left e =
     let a = at-ceiling ceiling schedule nodes start run w told left (ltb-false _ _ e) in next (atEnd Cut run) (a .0) (a .1)
 

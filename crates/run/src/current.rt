@@ -125,7 +125,7 @@ fn action_saying(run: Run, action: Action, node: u8, lock: u8, place: usize) -> 
     ensures { λ r. ⌜ r ≡ saying (actionLine action node lock run) (actionItem action node lock run) ⌝ }
 {
     let state = run.reached.state;
-    let acted = state.act_sound(action, node, lock);
+    let acted = state.act(action, node, lock);
     let answer = acted.answer;
     let line = action_line(run, action, node, lock, acts::answer_number(answer));
     let next = acted.state;

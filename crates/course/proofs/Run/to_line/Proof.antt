@@ -6,7 +6,8 @@ use Rattle.course.specs.declared.ahead.Ahead.{Ahead}
 use Rattle.course.specs.Standing.{past}
 use Rattle.course.specs.Wording.{eventHere}
 use Rattle.course.specs.Ready.{aheadOf}
-use Rattle.course.proofs.Way.{Way, toGo, sets-out, way-past, way-step, past-nearer, step-nearer, at-event, at-action, at-ceiling, at-items-end}
+use Rattle.course.proofs.Way.{Way, toGo, sets-out, way-past, way-several, past-nearer, several-nearer, at-event, at-action, at-ceiling, at-items-end}
+use Rattle.course.proofs.Several.{at-once}
 use Rattle.course.proofs.LookAhead.{none-found, stepsTo, way-ahead, ahead-nearer}
 use Rattle.course.proofs.Run.to_line.Statement.{statement}
 use Rattle.course.proofs.Run.to_line.Tie as tie
@@ -56,14 +57,25 @@ at-end-requires c κs = search needs
 returns-2 : tie.Need-returns-2 Inv-loop μ-loop
 returns-2 c = rw (c .at-end .ensures) (at-ceiling _ _ _ _ _ (c .before .before .before .before .loop .inv) (c .before .before .before .if1 .left) (c .before .before .if3 .taken) (c .before .if4 .taken))
 
-one-step-requires : tie.Need-one-step-requires Inv-loop μ-loop
-one-step-requires c κs = (c .before .if3 .taken, search needs)
+at-once-requires : tie.Need-at-once-requires Inv-loop μ-loop
+at-once-requires c κs = search needs
+
+several-steps-requires : tie.Need-several-steps-requires Inv-loop μ-loop
+several-steps-requires c κs =
+    let o = at-once _ _ _ _ (c .at-once .ensures) (c .before .before .if3 .taken) (c .before .if4 .left) in
+    record { some = o .some; most = o .most; room = search needs }
 
 loop-less-2 : tie.Need-loop-less-2 Inv-loop μ-loop
-loop-less-2 c = rw (c .one-step .ensures) (step-nearer _ _ _ (c .before .before .before .before .loop .inv .most) (c .before .before .before .if1 .left) (c .before .before .if3 .taken))
+loop-less-2 c =
+    rw (c .several-steps .ensures)
+    (several-nearer _ _ _ _ _ (c .before .before .before .before .before .loop .inv .most) (c .before .before .before .before .if1 .left)
+    (at-once _ _ _ _ (c .before .at-once .ensures) (c .before .before .before .if3 .taken) (c .before .before .if4 .left)))
 
 loop-again-2 : tie.Need-loop-again-2 Inv-loop μ-loop
-loop-again-2 c = rw (c .one-step .ensures) (way-step _ _ _ _ _ (c .before .before .before .before .loop .inv) (c .before .before .before .if1 .left) (c .before .before .if3 .taken) (c .before .if4 .left))
+loop-again-2 c =
+    rw (c .several-steps .ensures)
+    (way-several _ _ _ _ _ _ (c .before .before .before .before .before .loop .inv) (c .before .before .before .before .if1 .left)
+    (at-once _ _ _ _ (c .before .at-once .ensures) (c .before .before .before .if3 .taken) (c .before .before .if4 .left)))
 
 look-ahead-requires : tie.Need-look-ahead-requires Inv-loop μ-loop
 look-ahead-requires c κs = search needs
@@ -112,7 +124,8 @@ to-line-spec =
     loop-again
     at-end-requires
     returns-2
-    one-step-requires
+    at-once-requires
+    several-steps-requires
     loop-less-2
     loop-again-2
     look-ahead-requires

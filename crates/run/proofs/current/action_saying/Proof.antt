@@ -7,8 +7,8 @@ use borrow.Author.Needs.{needs}
 use Rattle.run.proofs.current.action_saying.Statement.{statement}
 use Rattle.run.proofs.current.action_saying.Tie as tie
 
-act-sound-requires : tie.Need-act-sound-requires
-act-sound-requires c κs = search needs
+act-requires : tie.Need-act-requires
+act-requires c κs = search needs
 
 answer-number-requires : tie.Need-answer-number-requires
 answer-number-requires c κs = search needs
@@ -18,8 +18,8 @@ action-line-requires c κs = search needs
 
 returns : tie.Need-returns
 unfolding saying actionLine actionItem actionRefusal
-returns c = simp (c .before .before .before .before .before .before .pre, c .before .before .action-line .ensures, c .before .before .before .answer-number .ensures, acted-state _ _ _ _ _ (c .before .before .before .before .act-sound .ensures), acted-number _ _ _ _ _ (c .before .before .before .before .act-sound .ensures))
+returns c = simp (c .before .before .before .before .before .before .pre, c .before .before .action-line .ensures, c .before .before .before .answer-number .ensures, acted-state _ _ _ _ _ (c .before .before .before .before .act .ensures), acted-number _ _ _ _ _ (c .before .before .before .before .act .ensures))
 
 pub action-saying-spec : {M : Type 1} → statement M
 action-saying-spec =
-    tie.close (tie.spec act-sound-requires answer-number-requires action-line-requires returns)
+    tie.close (tie.spec act-requires answer-number-requires action-line-requires returns)
