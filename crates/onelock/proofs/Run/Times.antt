@@ -7,6 +7,7 @@ use native.Mathlib.Omega.{arith}
 use lib.Dec.{eqb}
 use lib.Seq.{append-snoc}
 use borrow.Author.Tests.{eqb-true}
+use Rattle.lists.proofs.Tests.{by-value}
 use Rattle.cars.specs.Cars.{multiring}
 use Rattle.plan.specs.declared.Plan.{Plan}
 use Rattle.plan.specs.Plan.{inRange, nodeCount}
@@ -18,7 +19,6 @@ use Rattle.ring.specs.Step.{stepping}
 use Rattle.onelock.specs.OneLock.{Item, step, act, afterItem, afterAll, reached, Deed, granted, ended, deedIf, releases, deedsIn, deedsOf}
 use Rattle.onelock.specs.OneLock.{Time, inStep, afterStep, Moment, rank, timeOf, doneAfter, noted, historyFrom, history, stepsAmong, ComesFrom}
 use Rattle.onelock.specs.OneLock.{Lock, free, heldBy, broken, after, orElse, afterMoment, plainFrom, plain, isBroken}
-use Rattle.onelock.proofs.Tests.{by-value}
 use Rattle.onelock.proofs.Run.Reached.{plan-reached}
 use Rattle.onelock.proofs.Run.Parts.{reached-more, among-more}
 
