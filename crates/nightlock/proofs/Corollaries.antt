@@ -1,13 +1,15 @@
 -- Demand 3 of a night run: the sentences of specs/Corollaries, proved of every accepted file and every ceiling.
 use Prim.Native.Nat.{ℕ, _-_}
 use mathlib.Core.Path.{_≡_, refl, _∙_, ap, sym, subst}
+use mathlib.Core.Bool.{true}
 use mathlib.Core.List.{List, [], _∷_, _++_}
-use Rattle.plan.specs.Plan.{nodePlaces}
+use Rattle.plan.specs.Plan.{nodePlaces, inRange}
 use Rattle.ring.specs.declared.State.{State}
-use Rattle.ring.specs.State.{Told, startOf, startState}
-use Rattle.ring.specs.Actions.{actingSound}
-use Rattle.ring.specs.Step.{StepTold, steppingSound}
-use Rattle.nightfile.specs.File.{fileNumber, schedulePart}
+use Rattle.ring.specs.State.{startOf, startState}
+use Rattle.ring.specs.Actions.{acting}
+use Rattle.ring.specs.Step.{stepping}
+use Rattle.nightfile.specs.File.{fileNumber, planOf, schedulePart}
+use Rattle.nightfile.proofs.Laws.{accepted, plan-shown}
 use Rattle.course.specs.Standing.{nodesOf, beginning, reachedNext, actionItem}
 use Rattle.course.specs.Whole.{tellingAll, manySteps, itemsFrom, onItems, onSteps, working}
 use Rattle.run.specs.Outcomes.{outcomeOf, fileCourse, fileOutcome}
@@ -17,9 +19,13 @@ use Rattle.onelock.proofs.Run.Parts.{reached-more}
 use Rattle.onelock.proofs.Theorems.{never-stuck}
 use Rattle.nightlock.specs.NightLock.{planIn, itemsIn, at-first, by-step, by-action}
 use Rattle.nightlock.specs.Corollaries.{EveryStateIsReached, EveryLineStands, NoStepRefused, TheLinesAreTheHistory}
-use Rattle.nightlock.proofs.Items.{plan-in-range, step-reached, act-reached}
 use Rattle.nightlock.proofs.Deeds.{apart, tells-none}
 use Rattle.nightlock.proofs.Courses.{At, at-same, standing, Goes, none, goes-same, goes-telling, goes-items}
+
+-- the plan of an accepted file is in range
+plan-in-range : (file : List ℕ) → fileNumber file ≡ 0 → inRange (planIn file) ≡ true
+unfolding planIn
+plan-in-range file e = ap (λ (body : List ℕ). inRange (planOf body)) (plan-shown file e) ∙ accepted file e .in-range
 
 -- the run of an accepted file begins at its items, with nothing done
 begins-items : (file : List ℕ) → fileNumber file ≡ 0 → AtItems (beginning file)
@@ -53,27 +59,20 @@ unfolding beginning startState planIn reached afterAll reachedNext actionItem af
 every-state-is-reached file e _ at-first = record { items = []; is = rw (plan-in-range file e) }
 every-state-is-reached file e _ (by-step before way) =
     let x = every-state-is-reached file e (before .state) way in
-    let plan = planIn file in
     record {
       items = x .items ++ (step ∷ []);
-      is = ap (λ (s : State). steppingSound s .state) (x .is)
-          ∙ ap (λ (t : StepTold). t .state) (step-reached plan (plan-in-range file e) (x .items)) ∙ sym (reached-more plan (x .items) step);
+      is = ap (λ (s : State). stepping s .state) (x .is) ∙ sym (reached-more (planIn file) (x .items) step);
     }
 every-state-is-reached file e _ (by-action action node lock before way) =
     let x = every-state-is-reached file e (before .reached .state) way in
-    let plan = planIn file in
     record {
       items = x .items ++ (act action node lock ∷ []);
-      is = ap (λ (s : State). actingSound action s node lock .state) (x .is)
-          ∙ ap (λ (t : Told). t .state) (act-reached plan (plan-in-range file e) (x .items) action node lock)
-          ∙ sym (reached-more plan (x .items) (act action node lock));
+      is = ap (λ (s : State). acting action s node lock .state) (x .is) ∙ sym (reached-more (planIn file) (x .items) (act action node lock));
     }
 
--- C of demand 3, for the run's own step
+-- C of demand 3, of the file's plan
 pub no-step-refused : NoStepRefused
-no-step-refused file e items =
-    let r = plan-in-range file e in
-    ap (λ (t : StepTold). t .number) (step-reached (planIn file) r items) ∙ never-stuck (planIn file) r items
+no-step-refused file e items = never-stuck (planIn file) (plan-in-range file e) items
 
 -- from the start on, all that the course does is all that is done
 pub the-lines-are-the-history : TheLinesAreTheHistory

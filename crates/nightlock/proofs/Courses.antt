@@ -1,7 +1,7 @@
 -- What is known of a course of a run that stands where a first part of its file's items has brought it: every line stands at such a place, and
 -- what the lines report of a lock is the history of what the items do to it.
 use Prim.Native.Nat.{ℕ, zero, suc, _+_, _-_}
-use mathlib.Core.Path.{_≡_, refl, _∙_, ap, sym, subst}
+use mathlib.Core.Path.{_≡_, refl, _∙_, ap, sym}
 use mathlib.Core.Bool.{Bool, true, false, cond, true≢false}
 use mathlib.Core.List.{List, [], _∷_, _++_, append-nil, append-assoc}
 use native.Mathlib.Numerals.{add-one}
@@ -13,9 +13,8 @@ use Rattle.plan.specs.Plan.{inRange, nodeCount}
 use Rattle.acts.specs.declared.Action.{Action}
 use Rattle.ring.specs.declared.State.{State}
 use Rattle.ring.specs.declared.Happening.{Happening}
-use Rattle.ring.specs.State.{Told}
-use Rattle.ring.specs.Actions.{acting, actingSound}
-use Rattle.ring.specs.Step.{StepTold, stepping, steppingSound}
+use Rattle.ring.specs.Actions.{acting}
+use Rattle.ring.specs.Step.{stepping}
 use Rattle.items.specs.declared.Item.{Item as FileItem}
 use Rattle.items.specs.declared.Item.the-variants.{Steps, Act}
 use Rattle.course.specs.declared.Reached.{Reached}
@@ -33,7 +32,6 @@ use Rattle.onelock.proofs.Run.Reached.{plan-reached}
 use Rattle.onelock.proofs.Run.Parts.{reached-more, among-more, noted-more}
 use Rattle.onelock.proofs.Theorems.{one-deed-at-a-time}
 use Rattle.nightlock.specs.NightLock.{planIn, manySteps as itemSteps, asItems, itemsIn, Stands, EachSaid, reports, reported}
-use Rattle.nightlock.proofs.Items.{step-reached, act-reached}
 use Rattle.nightlock.proofs.Deeds.{apart, apart-more, apart-one, tells, tells-all, event-reports, no-event, action-reports, lock-reports, last-reports}
 
 -- a run that has done these items, with those left
@@ -180,8 +178,7 @@ module _ (file : List ℕ) (r : inRange (planIn file) ≡ true) where
   step-stands {done} {left} run a =
       record {
         split = a .split ∙ sym (append-snoc done step left);
-        state = ap (λ (s : State). steppingSound s .state) (a .state) ∙ ap (λ (t : StepTold). t .state) (step-reached (planIn file) r done)
-            ∙ sym (reached-more (planIn file) done step);
+        state = ap (λ (s : State). stepping s .state) (a .state) ∙ sym (reached-more (planIn file) done step);
         steps = ap (λ (n : ℕ). n + 1) (a .steps) ∙ add-one (stepsAmong done) ∙ sym (among-more done step);
       }
 
@@ -193,10 +190,9 @@ module _ (file : List ℕ) (r : inRange (planIn file) ≡ true) where
       let s = reached (planIn file) done in
       let now : List Happening = stepping s .events in
       let rules = planIn file .rules in
-      let same : steppingSound (run .reached .state) ≡ stepping s = ap steppingSound (a .state) ∙ step-reached (planIn file) r done in
       let count : nodesOf (oneStep run) ≡ nodeCount (s .plan) = step-nodes run ∙ ap (λ (t : State). nodeCount (t .plan)) (a .state) in
       let nodes : nodesOf (oneStep run) - 0 ≡ nodeCount (s .plan) = omega (arith, count) in
-      ap (λ (t : StepTold). tells rules lock (t .events) 0 (nodesOf (oneStep run) - 0)) same
+      ap (λ (t : State). tells rules lock (stepping t .events) 0 (nodesOf (oneStep run) - 0)) (a .state)
       ∙ ap (tells rules lock now 0) nodes
       ∙ tells-all rules lock now (nodeCount (s .plan))
       ∙ ap (λ (p : Plan). deedsIn (p .rules) lock now (nodeCount (s .plan))) (sym (plan-reached (planIn file) r done))
@@ -218,8 +214,7 @@ module _ (file : List ℕ) (r : inRange (planIn file) ≡ true) where
   act-stands {done} {left} action node lock run a =
       record {
         split = a .split ∙ sym (append-snoc done (act action node lock) left);
-        state = ap (λ (s : State). actingSound action s node lock .state) (a .state) ∙ ap (λ (t : Told). t .state) (act-reached (planIn file) r done action node lock)
-            ∙ sym (reached-more (planIn file) done (act action node lock));
+        state = ap (λ (s : State). acting action s node lock .state) (a .state) ∙ sym (reached-more (planIn file) done (act action node lock));
         steps = a .steps ∙ sym (among-more done (act action node lock));
       }
 
@@ -229,10 +224,8 @@ module _ (file : List ℕ) (r : inRange (planIn file) ≡ true) where
   unfolding timeOf
   act-tells {done} action node own run a lock =
       let same : run .reached .state .plan ≡ planIn file = ap (λ (t : State). t .plan) (a .state) ∙ plan-reached (planIn file) r done in
-      let sound : actingSound action (run .reached .state) node own ≡ acting action (run .reached .state) node own =
-      subst (λ (t : State). actingSound action t node own ≡ acting action t node own) (sym (a .state)) (act-reached (planIn file) r done action node own) in
       ap (λ (p : Plan). reports (p .rules) lock (actionLine action node own run)) (sym same)
-      ∙ action-reports action node own lock run sound
+      ∙ action-reports action node own lock run
       ∙ ap (λ (n : ℕ). noted (afterStep n) (deedsOf lock (act action node own) (run .reached .state)) []) (a .steps)
       ∙ ap (λ (t : State). noted (afterStep (stepsAmong done)) (deedsOf lock (act action node own) t) []) (a .state)
 

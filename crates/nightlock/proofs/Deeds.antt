@@ -14,8 +14,7 @@ use Rattle.turns.specs.declared.Event.{Event}
 use Rattle.turns.specs.declared.Event.the-variants.{Nothing, Granted, Failed, Lost, Back, Sent}
 use Rattle.turns.specs.Turn.{eventLetter, eventLock}
 use Rattle.ring.specs.declared.Happening.{Happening}
-use Rattle.ring.specs.State.{Told}
-use Rattle.ring.specs.Actions.{acting, actingSound}
+use Rattle.ring.specs.Actions.{acting}
 use Rattle.ring.specs.Walk.{quiet}
 use Rattle.course.specs.declared.Run.{Run}
 use Rattle.course.specs.declared.Phase.{Phase}
@@ -143,14 +142,11 @@ act-line rules lock node own action run false number place =
     (sym (and-false (releases action && not (multiring rules) && eqb own lock)))
 
 pub action-reports : (action : Action) (node own lock : ℕ) (run : Run)
-    → actingSound action (run .reached .state) node own ≡ acting action (run .reached .state) node own
     → reports (run .reached .state .plan .rules) lock (actionLine action node own run)
     ≡ noted (afterStep (run .reached .steps)) (deedsOf lock (act action node own) (run .reached .state)) []
 unfolding actionLine actionRefusal deedsOf
-action-reports action node own lock run e =
-    let rules = run .reached .state .plan .rules in
-    act-line rules lock node own action run (eqb (actingSound action (run .reached .state) node own .number) 0) _ _
-    ∙ ap (λ (t : Told). noted (afterStep (run .reached .steps)) (deedIf (releases action && not (multiring rules) && eqb own lock && eqb (t .number) 0) (ended node)) []) e
+action-reports action node own lock run =
+    act-line (run .reached .state .plan .rules) lock node own action run (eqb (acting action (run .reached .state) node own .number) 0) _ _
 
 -- a lock's line and the last line report nothing
 pub lock-reports : (rules lock : ℕ) (run : Run) → reports rules lock (lockLine run) ≡ []

@@ -1,4 +1,3 @@
-pub mod Items
 pub mod Deeds
 pub mod Courses
 pub mod Corollaries

@@ -5,7 +5,7 @@ use mathlib.Core.Bool.{false}
 use mathlib.Core.List.{List, []}
 use lib.ListN.{length}
 use Rattle.ring.specs.declared.State.{State}
-use Rattle.ring.specs.Step.{steppingSound}
+use Rattle.ring.specs.Step.{stepping}
 use Rattle.nightfile.specs.File.{fileNumber, schedulePart}
 use Rattle.course.specs.Whole.{itemsFrom}
 use Rattle.run.specs.Outcomes.{fileCourse, fileOutcome}
@@ -25,9 +25,9 @@ abbrev pub EveryLineStands : Type 0
 EveryLineStands =
     (ceiling : ℕ) (file : List ℕ) → fileNumber file ≡ 0 → EachSaid (λ said. Stands file (said .before) × Stands file (said .after)) (fileCourse ceiling file .lines)
 
--- no step of it is refused: the run's step is done in every such state
+-- no step of it is refused: the step is done in every such state
 abbrev pub NoStepRefused : Type 0
-NoStepRefused = (file : List ℕ) → fileNumber file ≡ 0 → (items : List Item) → steppingSound (reached (planIn file) items) .number ≡ 0
+NoStepRefused = (file : List ℕ) → fileNumber file ≡ 0 → (items : List Item) → stepping (reached (planIn file) items) .number ≡ 0
 
 -- the run ends where some first part of the items has brought it, all of them where it is not cut, and what its lines report of a lock, each grant and
 -- each ending at the time that its line says, is the lock's history over these items

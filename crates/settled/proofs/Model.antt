@@ -94,4 +94,5 @@ ring =
       release = (λ a. tt, λ a x y d e p q. action-apart x y (same p q));
       force = (λ a. tt, λ a x y d e p q. action-apart x y (same p q));
       step = (λ a. tt, λ a x y d e p q. step-apart x y (same p q));
+      advance = (λ a. tt, λ a x y d e. same);
     }

@@ -43,6 +43,7 @@ use Rattle.ring.proofs.State.take.Reads as take
 use Rattle.ring.proofs.State.release.Reads as release
 use Rattle.ring.proofs.State.force.Reads as force
 use Rattle.ring.proofs.State.step.Reads as step
+use Rattle.ring.proofs.State.advance.Reads as advance
 use Rattle.settled.specs.Settled.{Settled}
 
 -- words
@@ -118,3 +119,4 @@ pub record Ring : Type 0 where
   pub release : Settled (release.Asked tt) (release.Learnt tt)
   pub force : Settled (force.Asked tt) (force.Learnt tt)
   pub step : Settled (step.Asked tt) (step.Learnt tt)
+  pub advance : Settled (advance.Asked tt) (advance.Learnt tt)
