@@ -17,7 +17,7 @@ use Rattle.acts.specs.Actions.{nodeNumber, acted}
 use Rattle.ring.specs.declared.State.{State}
 use Rattle.ring.specs.State.{Told, nodeOf}
 use Rattle.ring.specs.Sound.{sound}
-use Rattle.ring.specs.Actions.{actionNumber, actedState, handedBack, actingSound, acting}
+use Rattle.ring.specs.Actions.{actionNumber, actedState, handedBack, acting}
 use Rattle.ring.proofs.Laws.{accepted-node}
 use Rattle.unused.specs.Unused.{ComesBack, Agree}
 use Rattle.unused.proofs.Lists.{same-set}
@@ -38,7 +38,7 @@ module _ (action : Action) (state : State) (node lock : ℕ) where
   -- what holds of the state as it is, and as an accepted action leaves it, holds of the answer's state
   by-answer : (P : State → Type 0) → P state → (isNode (nodeCount (state .plan)) node ≡ true → P (actedState action state node lock))
       → P (acting action state node lock .state)
-  unfolding acting actingSound handedBack
+  unfolding acting handedBack
   by-answer P stay act = go (sound state) (eqb number 0) refl
     where
       number : ℕ
@@ -127,7 +127,7 @@ module _ (action : Action) (node lock : ℕ) (a b : State) (g : Agree a (like a 
 
   -- any action
   like-same : SameAct (acting action a node lock) (acting action (like a b) node lock)
-  unfolding acting actingSound
+  unfolding acting
   like-same = subst (λ (t : Bool). SameAct (told (sound a) a) (told t (like a b))) (sound-same a b g) (go (sound a))
     where
       told : Bool → State → Told
