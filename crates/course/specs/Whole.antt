@@ -10,7 +10,7 @@ use Rattle.items.specs.declared.Item.the-variants.{Steps, Act}
 use Rattle.items.specs.declared.ItemAnswer.{ItemAnswer}
 use Rattle.items.specs.declared.ItemAnswer.the-variants.{NoMore, Found, LeftOver, Bad}
 use Rattle.items.specs.Items.{readAt}
-use Rattle.course.specs.declared.Line.{Line}
+use Rattle.wording.specs.declared.Line.{Line}
 use Rattle.course.specs.declared.Run.{Run}
 use Rattle.course.specs.declared.Phase.{Phase}
 use Rattle.course.specs.declared.Phase.the-variants.{Items, Ended, Cut, Refused}

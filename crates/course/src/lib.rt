@@ -38,14 +38,6 @@ pub struct Run {
     pub over: bool,
 }
 
-// A line: steps done, letter, two numbers.
-pub struct Line {
-    pub steps: u64,
-    pub letter: u8,
-    pub first: u64,
-    pub second: u64,
-}
-
 // The run of a file, accepted or refused, before its first line.
 pub fn begin(file: &[u8]) -> Run
     ensures { λ r. ⌜ r ≡ beginning (now (file .entry)) ⌝ }

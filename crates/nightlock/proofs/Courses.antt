@@ -19,12 +19,11 @@ use Rattle.items.specs.declared.Item.{Item as FileItem}
 use Rattle.items.specs.declared.Item.the-variants.{Steps, Act}
 use Rattle.course.specs.declared.Reached.{Reached}
 use Rattle.course.specs.declared.Run.{Run}
-use Rattle.course.specs.declared.Line.{Line}
+use Rattle.wording.specs.declared.Line.{Line}
 use Rattle.course.specs.declared.Phase.the-variants.{Ended, Cut}
 use Rattle.course.specs.Standing.{nodesOf, reachedNext, oneStep, past, stepsItem, actionItem, atEnd, allSaid}
-use Rattle.course.specs.Wording.{eventHere, isEvent, eventLine, actionLine, lockLine, lastLine}
+use Rattle.course.specs.Wording.{eventHere, isEvent, isCut, eventLine, actionLine, lockLine, lastLine}
 use Rattle.course.specs.Whole.{Said, Course, says, silence, telling, tellingAll, closing, closingAll, manySteps, items}
-use Rattle.run.specs.Outcomes.{isCut}
 use Rattle.course.proofs.Moves.{withNext, step-nodes}
 use Rattle.onelock.specs.OneLock.{Item, step, act, afterItem, reached, Deed, deedOf, deedsOf, deedsIn, inStep, afterStep, Moment, timeOf, doneAfter, noted}
 use Rattle.onelock.specs.OneLock.{historyFrom, stepsAmong}

@@ -19,7 +19,8 @@ use Rattle.ring.specs.Walk.{quiet}
 use Rattle.course.specs.declared.Run.{Run}
 use Rattle.course.specs.declared.Phase.{Phase}
 use Rattle.course.specs.declared.Phase.the-variants.{Items, Ended, Cut, Refused}
-use Rattle.course.specs.Wording.{lineOf, eventHere, isEvent, eventLine, actionLetter, actionRefusal, actionLine, endLetter, lockLine, lastLine}
+use Rattle.wording.specs.Wording.{lineOf, actionLetter, actionSays, refusedSays, eventSays, lockSays, endLetter, lastSays}
+use Rattle.course.specs.Wording.{eventHere, isEvent, isCut, eventLine, actionRefusal, actionLine, lockLine, lastLine}
 use Rattle.onelock.specs.OneLock.{act, Deed, granted, ended, deedIf, deedOf, deedsIn, deedsOf, releases, Time, inStep, afterStep, Moment, noted}
 use Rattle.nightlock.specs.NightLock.{deedsOfLine, timeOfLine, reports}
 
@@ -86,10 +87,9 @@ tells-none rules lock places next (suc n) =
     ∙ tells-none rules lock places (next + 1) n
 
 -- a line says the steps that are done
-line-says : (run : Run) (letter first second : ℕ)
-    → lineOf run letter first second ≡ record { steps = run .reached .steps; letter = letter; first = first; second = second }
+line-says : (steps letter first second : ℕ) → lineOf steps letter first second ≡ record { steps = steps; letter = letter; first = first; second = second }
 unfolding lineOf
-line-says run letter first second = refl
+line-says steps letter first second = refl
 
 -- an event's line reports its deed, in the step whose number it bears
 line-reports : (rules lock steps node : ℕ) (event : Event)
@@ -105,9 +105,9 @@ line-reports rules lock steps node (Sent own) = apart-if (inStep steps) (multiri
 
 pub event-reports : (rules lock : ℕ) (run : Run)
     → reports rules lock (eventLine run) ≡ apart (inStep (run .reached .steps)) (deedOf rules lock (run .next + 1) (eventHere run))
-unfolding eventLine
+unfolding eventLine eventSays
 event-reports rules lock run =
-    ap (reports rules lock) (line-says run _ _ _) ∙ line-reports rules lock (run .reached .steps) (run .next + 1) (eventHere run)
+    ap (reports rules lock) (line-says (run .reached .steps) _ _ _) ∙ line-reports rules lock (run .reached .steps) (run .next + 1) (eventHere run)
 
 -- without a letter it is no grant and no ending
 pub no-event : (rules lock node : ℕ) (event : Event) → isEvent event ≡ false → deedOf rules lock node event ≡ []
@@ -129,11 +129,11 @@ accepted-reports rules lock steps node own Release = refl
 accepted-reports rules lock steps node own Force = refl
 
 act-line : (rules lock node own : ℕ) (action : Action) (run : Run) (taken : Bool) (number place : ℕ)
-    → reports rules lock (cond taken (lineOf run (actionLetter action) node own) (lineOf run 88 number place))
+    → reports rules lock (cond taken (actionSays (run .reached .steps) action node own) (refusedSays (run .reached .steps) number place))
     ≡ noted (afterStep (run .reached .steps)) (deedIf (releases action && not (multiring rules) && eqb own lock && taken) (ended node)) []
-unfolding reports deedsOfLine noted lineOf deedIf
+unfolding reports deedsOfLine noted actionSays refusedSays lineOf deedIf
 act-line rules lock node own action run true number place =
-    ap (reports rules lock) (line-says run (actionLetter action) node own)
+    ap (reports rules lock) (line-says (run .reached .steps) (actionLetter action) node own)
     ∙ accepted-reports rules lock (run .reached .steps) node own action
     ∙ ap (λ (test : Bool). noted (afterStep (run .reached .steps)) (deedIf test (ended node)) [])
     (sym (and-true (releases action && not (multiring rules) && eqb own lock)))
@@ -150,17 +150,14 @@ action-reports action node own lock run =
 
 -- a lock's line and the last line report nothing
 pub lock-reports : (rules lock : ℕ) (run : Run) → reports rules lock (lockLine run) ≡ []
-unfolding reports deedsOfLine noted lockLine lineOf
+unfolding reports deedsOfLine noted lockLine lockSays lineOf
 lock-reports rules lock run = refl
 
-end-reports : (rules lock steps first second : ℕ) (phase : Phase)
-    → reports rules lock (record { steps = steps; letter = endLetter phase; first = first; second = second }) ≡ []
-unfolding reports deedsOfLine noted endLetter
-end-reports rules lock steps first second Items = refl
-end-reports rules lock steps first second Ended = refl
-end-reports rules lock steps first second Cut = refl
-end-reports rules lock steps first second (Refused number) = refl
+end-reports : (rules lock steps first second : ℕ) (cut : Bool) → reports rules lock (lastSays steps cut first second) ≡ []
+unfolding reports deedsOfLine noted endLetter lastSays lineOf
+end-reports rules lock steps first second true = refl
+end-reports rules lock steps first second false = refl
 
 pub last-reports : (rules lock : ℕ) (run : Run) → reports rules lock (lastLine run) ≡ []
-unfolding lastLine lineOf
-last-reports rules lock run = end-reports rules lock _ _ _ (run .phase)
+unfolding lastLine
+last-reports rules lock run = end-reports rules lock _ _ _ (isCut (run .phase))

@@ -15,7 +15,7 @@ use Rattle.acts.specs.declared.Action.{Action}
 use Rattle.ring.specs.declared.State.{State}
 use Rattle.course.specs.declared.Reached.{Reached}
 use Rattle.course.specs.declared.Run.{Run}
-use Rattle.course.specs.declared.Line.{Line}
+use Rattle.wording.specs.declared.Line.{Line}
 use Rattle.course.specs.Standing.{beginning, reachedNext, actionItem}
 use Rattle.course.specs.Whole.{Said, itemsFrom}
 use Rattle.onelock.specs.OneLock.{Item, step, act, reached, Deed, granted, ended, deedIf, Time, inStep, afterStep, Moment, noted, stepsAmong}

@@ -13,12 +13,13 @@ use Rattle.items.specs.declared.Item.the-variants.{Steps, Act}
 use Rattle.items.specs.declared.ItemAnswer.{ItemAnswer}
 use Rattle.items.specs.declared.ItemAnswer.the-variants.{NoMore, Found, LeftOver, Bad}
 use Rattle.items.specs.Items.{readAt}
-use Rattle.course.specs.declared.Line.{Line}
+use Rattle.wording.specs.declared.Line.{Line}
 use Rattle.course.specs.declared.Run.{Run}
 use Rattle.course.specs.declared.Phase.{Phase}
 use Rattle.course.specs.declared.Phase.the-variants.{Items, Ended, Cut, Refused}
 use Rattle.course.specs.Standing.{nodesOf, past, stepsItem, atEnd}
-use Rattle.course.specs.Wording.{text, eventHere, isEvent}
+use Rattle.wording.specs.Wording.{text}
+use Rattle.course.specs.Wording.{eventHere, isEvent}
 use Rattle.course.specs.Whole.{Course, says, silence, course, andOthers}
 use Rattle.course.specs.Ready.{isAct, isAction, readyIn, ready}
 use Rattle.course.specs.Several.{AtOnce, severalSteps}

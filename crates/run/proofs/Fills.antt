@@ -11,9 +11,9 @@ use borrow.Author.Tests.{le-leb, lt-leb, leb-true, leb-false}
 use Rattle.lines.specs.Line.{bufferAfter}
 use Rattle.lines.proofs.Laws.{line-length}
 use Rattle.course.specs.declared.Run.{Run}
-use Rattle.course.specs.declared.Line.{Line}
+use Rattle.wording.specs.declared.Line.{Line}
 use Rattle.run.specs.declared.Saying.{Saying}
-use Rattle.course.specs.Wording.{text}
+use Rattle.wording.specs.Wording.{text}
 use Rattle.course.specs.Whole.{Course, says, silence, course}
 use Rattle.course.specs.Ready.{ready}
 use Rattle.run.specs.Current.{sayingNow}

@@ -17,10 +17,11 @@ use Rattle.course.specs.declared.Phase.the-variants.{Ended, Cut, Refused}
 use Rattle.course.specs.Standing.{nodesOf, beginning, reachedNext, oneStep, past, stepsItem, actionItem, atEnd, allSaid}
 use Rattle.lines.specs.Line.{line}
 use Rattle.run.specs.Filling.{texts}
-use Rattle.course.specs.Wording.{text, lineOf, eventHere, isEvent, refusalLine, endLetter}
+use Rattle.wording.specs.Wording.{text, lineOf, refusalSays}
+use Rattle.course.specs.Wording.{eventHere, isEvent, isCut, refusalLine}
 use Rattle.course.specs.Whole.{Course, says, silence, telling, tellingAll, closing, closingAll, manySteps, items, itemsFrom, stepsIn, onItems, onSteps, working, courseIn, course}
 use Rattle.course.proofs.Moves.{AtItems, course-items, withNext}
-use Rattle.run.specs.Outcomes.{refusalOf, isCut, outcomeOf, fileCourse, fileOutcome, fileText, scheduleSum}
+use Rattle.run.specs.Outcomes.{refusalOf, outcomeOf, fileCourse, fileOutcome, fileText, scheduleSum}
 
 -- a course that ends with the smaller of the ceiling and a sum
 pub record Ends (ceiling sum : ℕ) (c : Course) : Type 0 where
@@ -140,10 +141,8 @@ unfolding beginning
 refused-phase file e = simp (ne-eqb _ _ e)
 
 pub refused-text : (ceiling : ℕ) (file : List ℕ) → (fileNumber file ≡ 0 → ⊥) → fileText ceiling file ≡ line 0 81 (fileNumber file) 0
-unfolding fileText says silence texts text refusalLine lineOf endLetter beginning
-refused-text ceiling file e =
-    ap (λ (c : Course). texts (c .lines)) (refused-course ceiling file e) ∙ append-nil _
-    ∙ ap (λ (p : Phase). line 0 (endLetter p) (fileNumber file) 0) (refused-phase file e)
+unfolding fileText says silence texts text refusalLine refusalSays lineOf beginning
+refused-text ceiling file e = ap (λ (c : Course). texts (c .lines)) (refused-course ceiling file e) ∙ append-nil _
 
 pub refused-outcome : (ceiling : ℕ) (file : List ℕ) → (fileNumber file ≡ 0 → ⊥) → fileOutcome ceiling file .refusal ≡ fileNumber file
 unfolding fileOutcome outcomeOf says silence allSaid refusalOf

@@ -7,14 +7,18 @@ use Rattle.items.specs.declared.Item.{Item}
 use Rattle.items.specs.declared.Item.the-variants.{Steps, Act}
 use Rattle.items.specs.declared.ItemAnswer.{ItemAnswer}
 use Rattle.items.specs.declared.ItemAnswer.the-variants.{NoMore, Found, LeftOver, Bad}
-use Rattle.course.specs.declared.Line.{Line}
+use Rattle.wording.specs.declared.Line.{Line}
 use Rattle.course.specs.declared.Run.{Run}
 use Rattle.course.specs.declared.Phase.{Phase}
 use Rattle.course.specs.declared.Phase.the-variants.{Items, Ended, Cut, Refused}
 use Rattle.course.specs.Standing.{nodesOf, locksOf, past, actionItem, allSaid}
-use Rattle.course.specs.Wording.{lineOf, eventLine, actionLine, lockLine, lastLine, refusalLine}
+use Rattle.course.specs.Wording.{eventLine, actionLine, lockLine, lastLine, refusalLine}
 use Rattle.course.specs.Ready.{answerHere}
 use Rattle.run.specs.declared.Saying.{Saying}
+
+-- where there is none to say
+unfoldable pub noLine : Line
+noLine = record { steps = 0; letter = 0; first = 0; second = 0 }
 
 -- a line and the run after it
 unfoldable pub saying : Line → Run → Saying
@@ -22,14 +26,14 @@ saying line run = record { line = line; run = run }
 
 -- an item's line, if it is an action; else nothing
 unfoldable pub actSaying : Item → Run → Saying
-actSaying (Steps n) run = saying (lineOf run 0 0 0) run
+actSaying (Steps n) run = saying noLine run
 actSaying (Act action node lock) run = saying (actionLine action node lock run) (actionItem action node lock run)
 
 unfoldable pub answerSaying : ItemAnswer → Run → Saying
-answerSaying NoMore run = saying (lineOf run 0 0 0) run
+answerSaying NoMore run = saying noLine run
 answerSaying (Found item) run = actSaying item run
-answerSaying LeftOver run = saying (lineOf run 0 0 0) run
-answerSaying Bad run = saying (lineOf run 0 0 0) run
+answerSaying LeftOver run = saying noLine run
+answerSaying Bad run = saying noLine run
 
 -- a lock's line, or the last one
 unfoldable pub endSaying : Run → Saying

@@ -6,7 +6,7 @@ use lib.Dec.{leb}
 use lib.ListN.{length, drop}
 use Rattle.course.specs.declared.Run.{Run}
 use Rattle.run.specs.declared.Filled.{Filled}
-use Rattle.course.specs.Wording.{text}
+use Rattle.wording.specs.Wording.{text}
 use Rattle.course.specs.Whole.{Said, Course, course}
 
 -- the lines as they are written, one after the other

@@ -1,6 +1,5 @@
 -- 01, "The run and its lines": the result of a run, and the lines of a file.
 use Prim.Native.Nat.{ℕ}
-use mathlib.Core.Bool.{Bool, true, false}
 use mathlib.Core.List.{List}
 use Rattle.nightfile.specs.File.{schedulePart}
 use Rattle.tally.specs.Tally.{sumOf}
@@ -9,6 +8,7 @@ use Rattle.course.specs.declared.Phase.{Phase}
 use Rattle.course.specs.declared.Phase.the-variants.{Items, Ended, Cut, Refused}
 use Rattle.run.specs.declared.Outcome.{Outcome}
 use Rattle.course.specs.Standing.{locksOf, beginning}
+use Rattle.course.specs.Wording.{isCut}
 use Rattle.course.specs.Whole.{Course, course, itemsFrom, stepsIn}
 use Rattle.run.specs.Filling.{texts}
 
@@ -18,13 +18,6 @@ refusalOf Items = 0
 refusalOf Ended = 0
 refusalOf Cut = 0
 refusalOf (Refused number) = number
-
--- "C where the schedule's sum is above the ceiling"
-unfoldable pub isCut : Phase → Bool
-isCut Items = false
-isCut Ended = false
-isCut Cut = true
-isCut (Refused number) = false
 
 -- the numbers of a run where it stands
 unfoldable pub outcomeOf : Run → Outcome

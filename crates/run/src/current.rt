@@ -6,12 +6,12 @@ ghost use Prim.Native.Nat.{_+_, _/_, _<_};
 ghost use lib.ListN.{getD};
 ghost use Rattle.course.specs.declared.Phase.the-variants.{Items};
 ghost use Rattle.course.specs.Standing.{past, actionItem, allSaid};
-ghost use Rattle.course.specs.Wording.{lineOf, eventHere, eventLine, actionLetter, actionLine, lockLine, endLetter, lastLine, refusalLine};
+ghost use Rattle.wording.specs.Wording.{actionSays, refusedSays};
+ghost use Rattle.course.specs.Wording.{isCut, eventHere, eventLine, actionLine, lockLine, lastLine, refusalLine};
 ghost use Rattle.course.specs.Ready.{answerHere};
-ghost use Rattle.run.specs.Current.{saying, actSaying, answerSaying, endSaying, sayingIn, sayingNow};
+ghost use Rattle.run.specs.Current.{noLine, saying, actSaying, answerSaying, endSaying, sayingIn, sayingNow};
 use crate::Saying;
 use acts::Action;
-use course::Line;
 use course::Phase;
 use course::Reached;
 use course::Run;
@@ -19,27 +19,17 @@ use items::Item;
 use items::ItemAnswer;
 use tally::LOCKS;
 use turns::Event;
+use wording::Line;
 
-// The letter of an accepted action.
-fn action_letter(action: Action) -> u8
-    ensures { λ r. ⌜ r ≡ actionLetter action ⌝ }
-{
-    match action {
-        Action::Take => b'T',
-        Action::Release => b'R',
-        Action::Force => b'F',
-    }
-}
-
-// The letter of the last line.
-fn end_letter(phase: Phase) -> u8
-    ensures { λ r. ⌜ r ≡ endLetter phase ⌝ }
+// Whether the run was cut at the ceiling.
+pub(crate) fn is_cut(phase: Phase) -> bool
+    ensures { λ r. ⌜ r ≡ isCut phase ⌝ }
 {
     match phase {
-        Phase::Items => b'E',
-        Phase::Ended => b'E',
-        Phase::Cut => b'C',
-        Phase::Refused(_) => b'Q',
+        Phase::Items => false,
+        Phase::Ended => false,
+        Phase::Cut => true,
+        Phase::Refused(_) => false,
     }
 }
 
@@ -51,18 +41,6 @@ fn count_of(counts: [u64; LOCKS], lock: u8) -> u64
         return counts[lock as usize];
     }
     0
-}
-
-// A line of the run where it stands.
-fn line_of(run: Run, letter: u8, first: u64, second: u64) -> Line
-    ensures { λ r. ⌜ r ≡ lineOf run letter first second ⌝ }
-{
-    Line {
-        steps: run.reached.steps,
-        letter: letter,
-        first: first,
-        second: second,
-    }
 }
 
 // The next node, or the next lock.
@@ -99,9 +77,7 @@ fn event_saying(run: Run) -> Saying
     ensures { λ r. ⌜ r ≡ saying (eventLine run) (past run) ⌝ }
 {
     let event = event_here(run);
-    let letter = turns::event_letter(event);
-    let lock = turns::event_lock(event);
-    let line = line_of(run, letter, (run.next + 1) as u64, lock as u64);
+    let line = wording::event_line(run.reached.steps, run.next, event);
     let after = past(run);
     Saying {
         line: line,
@@ -109,14 +85,14 @@ fn event_saying(run: Run) -> Saying
     }
 }
 
-// The line of an action that had this number, 0 where it was accepted.
-fn action_line(run: Run, action: Action, node: u8, lock: u8, number: u8) -> Line
-    ensures { λ r. ⌜ r ≡ cond (eqb number 0) (lineOf run (actionLetter action) node lock) (lineOf run 88 number (run .at / 3)) ⌝ }
+// The line of an action that had this number, 0 where it was accepted, of the item that starts at this byte.
+fn action_line(steps: u64, at: usize, action: Action, node: u8, lock: u8, number: u8) -> Line
+    ensures { λ r. ⌜ r ≡ cond (eqb number 0) (actionSays steps action node lock) (refusedSays steps number at) ⌝ }
 {
     if number == 0 {
-        return line_of(run, action_letter(action), node as u64, lock as u64);
+        return wording::action_line(steps, action, node, lock);
     }
-    line_of(run, b'X', number as u64, (run.at / 3) as u64)
+    wording::refused_line(steps, number, at)
 }
 
 // An action's line, and the run at the place past it.
@@ -127,7 +103,8 @@ fn action_saying(run: Run, action: Action, node: u8, lock: u8, place: usize) -> 
     let state = run.reached.state;
     let acted = state.act(action, node, lock);
     let answer = acted.answer;
-    let line = action_line(run, action, node, lock, acts::answer_number(answer));
+    let number = acts::answer_number(answer);
+    let line = action_line(run.reached.steps, run.at, action, node, lock, number);
     let next = acted.state;
     let tally = run.reached.tally;
     let reached = Reached {
@@ -146,9 +123,14 @@ fn action_saying(run: Run, action: Action, node: u8, lock: u8, place: usize) -> 
 
 // No line.
 fn no_saying(run: Run) -> Saying
-    ensures { λ r. ⌜ r ≡ saying (lineOf run 0 0 0) run ⌝ }
+    ensures { λ r. ⌜ r ≡ saying noLine run ⌝ }
 {
-    let line = line_of(run, 0, 0, 0);
+    let line = Line {
+        steps: 0,
+        letter: 0,
+        first: 0,
+        second: 0,
+    };
     Saying {
         line: line,
         run: run,
@@ -186,7 +168,7 @@ fn lock_saying(run: Run) -> Saying
     ensures { λ r. ⌜ r ≡ saying (lockLine run) (past run) ⌝ }
 {
     let busy = run.reached.tally.busy;
-    let line = line_of(run, b'H', run.next as u64, count_of(busy, run.next));
+    let line = wording::lock_line(run.reached.steps, run.next, count_of(busy, run.next));
     let after = past(run);
     Saying {
         line: line,
@@ -202,9 +184,9 @@ fn last_saying(run: Run) -> Saying
     let grants = run.reached.tally.grants;
     let failed = run.reached.tally.failed;
     let phase = run.phase;
-    let line = line_of(
-        run,
-        end_letter(phase),
+    let line = wording::last_line(
+        run.reached.steps,
+        is_cut(phase),
         tally::sum_of(grants, locks),
         tally::sum_of(failed, locks),
     );
@@ -230,8 +212,7 @@ fn end_saying(run: Run) -> Saying
 fn refusal_saying(run: Run, number: u8) -> Saying
     ensures { λ r. ⌜ r ≡ saying (refusalLine number run) (allSaid run) ⌝ }
 {
-    let phase = run.phase;
-    let line = line_of(run, end_letter(phase), number as u64, 0);
+    let line = wording::refusal_line(run.reached.steps, number);
     let after = all_said(run);
     Saying {
         line: line,

@@ -6,9 +6,9 @@ ghost use Prim.Native.Nat.{_-_, _≤_};
 ghost use lib.Dec.{leb};
 ghost use lib.ListN.{length, take, drop};
 ghost use Rattle.lines.specs.Line.{bufferAfter};
-ghost use Rattle.course.specs.Wording.{text};
-use course::Line;
+ghost use Rattle.wording.specs.Wording.{text};
 use lines::Written;
+use wording::Line;
 
 // Writes a line behind the bytes that are used, and answers with its length; 0 where it does not fit.
 pub(crate) fn put(line: Line, buffer: &mut [u8], used: usize) -> usize

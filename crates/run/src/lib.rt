@@ -4,9 +4,9 @@ ghost use lib.ListN.{length};
 ghost use Rattle.course.specs.Whole.{course};
 ghost use Rattle.run.specs.Filling.{filling, filledBuffer};
 ghost use Rattle.run.specs.Outcomes.{fileOutcome};
-use course::Line;
 use course::Run;
 use tally::LOCKS;
+use wording::Line;
 
 mod current;
 mod filling;

@@ -1,7 +1,7 @@
 // The result of a run: a file run to its end under a ceiling.
 ghost use mathlib.Core.Path.{_≡_};
 ghost use Rattle.course.specs.Whole.{course};
-ghost use Rattle.run.specs.Outcomes.{refusalOf, isCut, outcomeOf};
+ghost use Rattle.run.specs.Outcomes.{refusalOf, outcomeOf};
 use crate::Outcome;
 use crate::current;
 use course::Phase;
@@ -16,18 +16,6 @@ fn refusal_of(phase: Phase) -> u8
         Phase::Ended => 0,
         Phase::Cut => 0,
         Phase::Refused(number) => number,
-    }
-}
-
-// Whether the run was cut at the ceiling.
-fn is_cut(phase: Phase) -> bool
-    ensures { λ r. ⌜ r ≡ isCut phase ⌝ }
-{
-    match phase {
-        Phase::Items => false,
-        Phase::Ended => false,
-        Phase::Cut => true,
-        Phase::Refused(_) => false,
     }
 }
 
@@ -57,7 +45,7 @@ pub(crate) fn numbers(run: Run) -> Outcome
     let failed = run.reached.tally.failed;
     Outcome {
         refusal: refusal_of(phase),
-        cut: is_cut(phase),
+        cut: current::is_cut(phase),
         steps: run.reached.steps,
         busy: busy,
         grants: tally::sum_of(grants, locks),

@@ -1,5 +1,5 @@
 -- The promises of the night file and of what runs it leave one answer and one content of a lent buffer.
-use Rattle.settled.specs.Night.{NightFile, Items, Lines, TallyOf, CourseOf, RunOf}
+use Rattle.settled.specs.Night.{NightFile, Items, Lines, Wording, TallyOf, CourseOf, RunOf}
 use Rattle.settled.proofs.Apart.{same, file-apart, written-apart}
 use Rattle.settled.proofs.Stands.{onward-settled}
 
@@ -27,6 +27,17 @@ lines =
       written-number = (λ a. tt, λ a x y d e. same);
       write-line-buffer = λ κ a x y d e p q. same (p .1) (q .1);
       write-line = λ κ. (λ a. tt, λ a x y d e p q. written-apart x y (same (p .0) (q .0)));
+    }
+
+pub wording : Wording
+wording =
+    record {
+      action-line = (λ a. tt, λ a x y d e. same);
+      refused-line = (λ a. tt, λ a x y d e. same);
+      event-line = (λ a. tt, λ a x y d e. same);
+      lock-line = (λ a. tt, λ a x y d e. same);
+      last-line = (λ a. tt, λ a x y d e. same);
+      refusal-line = (λ a. tt, λ a x y d e. same);
     }
 
 pub tally-of : TallyOf

@@ -1,4 +1,4 @@
--- Every public function of the night file, its items, the line writer, the tally, the course and the run: its promise leaves one possible answer,
+-- Every public function of the night file, its items, the line writer, the words of the lines, the tally, the course and the run: its promise leaves one possible answer,
 -- and one possible content of the buffer that it is lent. A part of the caller's file is told by its bytes and its place in memory.
 use Prim.Native.Nat.{ℕ}
 use mathlib.Core.List.{List}
@@ -14,6 +14,12 @@ use Rattle.items.proofs.item_number.Reads as item-number
 use Rattle.items.proofs.Cursor.read.Reads as read
 use Rattle.lines.proofs.written_number.Reads as written-number
 use Rattle.lines.proofs.write_line.Reads as write-line
+use Rattle.wording.proofs.action_line.Reads as action-line
+use Rattle.wording.proofs.refused_line.Reads as refused-line
+use Rattle.wording.proofs.event_line.Reads as event-line
+use Rattle.wording.proofs.lock_line.Reads as lock-line
+use Rattle.wording.proofs.last_line.Reads as last-line
+use Rattle.wording.proofs.refusal_line.Reads as refusal-line
 use Rattle.tally.proofs.empty_tally.Reads as empty-tally
 use Rattle.tally.proofs.step_tally.Reads as step-tally
 use Rattle.tally.proofs.silent_tally.Reads as silent-tally
@@ -44,6 +50,15 @@ pub record Lines : Type 0 where
   pub written-number : Settled (written-number.Asked tt) (written-number.Learnt tt)
   pub write-line-buffer : (κ : Lfts 1) → OneTold (λ r e. now (e .0)) (write-line.Learnt κ)
   pub write-line : (κ : Lfts 1) → Settled (write-line.Asked κ) (write-line.Learnt κ)
+
+-- wording
+pub record Wording : Type 0 where
+  pub action-line : Settled (action-line.Asked tt) (action-line.Learnt tt)
+  pub refused-line : Settled (refused-line.Asked tt) (refused-line.Learnt tt)
+  pub event-line : Settled (event-line.Asked tt) (event-line.Learnt tt)
+  pub lock-line : Settled (lock-line.Asked tt) (lock-line.Learnt tt)
+  pub last-line : Settled (last-line.Asked tt) (last-line.Learnt tt)
+  pub refusal-line : Settled (refusal-line.Asked tt) (refusal-line.Learnt tt)
 
 -- tally
 pub record TallyOf : Type 0 where

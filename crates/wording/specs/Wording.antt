@@ -9,6 +9,10 @@ use Rattle.turns.specs.Turn.{eventLetter, eventLock}
 use Rattle.lines.specs.Line.{line}
 use Rattle.wording.specs.declared.Line.{Line}
 
+-- the line with this letter and these two numbers, after so many steps
+unfoldable pub lineOf : ℕ → ℕ → ℕ → ℕ → Line
+lineOf steps letter first second = record { steps = steps; letter = letter; first = first; second = second }
+
 -- a line as it is written
 unfoldable pub text : Line → List ℕ
 text l = line (l .steps) (l .letter) (l .first) (l .second)
@@ -20,27 +24,27 @@ actionLetter Release = 82
 actionLetter Force = 70
 
 unfoldable pub actionSays : ℕ → Action → ℕ → ℕ → Line
-actionSays steps action node lock = record { steps = steps; letter = actionLetter action; first = node; second = lock }
+actionSays steps action node lock = lineOf steps (actionLetter action) node lock
 
 -- "X: a refused action, with its number and the item's place from 0": which item of the schedule it is, three bytes each
 unfoldable pub refusedSays : ℕ → ℕ → ℕ → Line
-refusedSays steps number at = record { steps = steps; letter = 88; first = number; second = at / 3 }
+refusedSays steps number at = lineOf steps 88 number (at / 3)
 
 -- "Events bear their step's number, .. with node and lock: G granted, N failp returned, L lost to a dov, B own dov back, D didv sent."
 unfoldable pub eventSays : ℕ → ℕ → Event → Line
-eventSays steps place event = record { steps = steps; letter = eventLetter event; first = place + 1; second = eventLock event }
+eventSays steps place event = lineOf steps (eventLetter event) (place + 1) (eventLock event)
 
 -- "one H line a lock ascending: lock and busy steps"
 unfoldable pub lockSays : ℕ → ℕ → ℕ → Line
-lockSays steps lock busy = record { steps = steps; letter = 72; first = lock; second = busy }
+lockSays steps lock busy = lineOf steps 72 lock busy
 
 -- "Last E, or C where the schedule's sum is above the ceiling: grants and N events."
 unfoldable pub endLetter : Bool → ℕ
 endLetter cut = cond cut 67 69
 
 unfoldable pub lastSays : ℕ → Bool → ℕ → ℕ → Line
-lastSays steps cut grants failed = record { steps = steps; letter = endLetter cut; first = grants; second = failed }
+lastSays steps cut grants failed = lineOf steps (endLetter cut) grants failed
 
 -- "A refused file gives only "0 Q number 0"."
 unfoldable pub refusalSays : ℕ → ℕ → Line
-refusalSays steps number = record { steps = steps; letter = 81; first = number; second = 0 }
+refusalSays steps number = lineOf steps 81 number 0

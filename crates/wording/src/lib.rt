@@ -1,6 +1,6 @@
 // The words of each line of a run: its letter and its two numbers, by what it tells.
 ghost use mathlib.Core.Path.{_≡_};
-ghost use Rattle.wording.specs.Wording.{actionLetter, actionSays, refusedSays, eventSays, lockSays, endLetter, lastSays, refusalSays};
+ghost use Rattle.wording.specs.Wording.{lineOf, actionLetter, actionSays, refusedSays, eventSays, lockSays, endLetter, lastSays, refusalSays};
 use acts::Action;
 use turns::Event;
 
@@ -10,6 +10,18 @@ pub struct Line {
     pub letter: u8,
     pub first: u64,
     pub second: u64,
+}
+
+// The line with this letter and these two numbers, after so many steps.
+fn line_of(steps: u64, letter: u8, first: u64, second: u64) -> Line
+    ensures { λ r. ⌜ r ≡ lineOf steps letter first second ⌝ }
+{
+    Line {
+        steps: steps,
+        letter: letter,
+        first: first,
+        second: second,
+    }
 }
 
 // The letter of an accepted action.
@@ -27,48 +39,33 @@ fn action_letter(action: Action) -> u8
 pub fn action_line(steps: u64, action: Action, node: u8, lock: u8) -> Line
     ensures { λ r. ⌜ r ≡ actionSays steps action node lock ⌝ }
 {
-    Line {
-        steps: steps,
-        letter: action_letter(action),
-        first: node as u64,
-        second: lock as u64,
-    }
+    line_of(steps, action_letter(action), node as u64, lock as u64)
 }
 
 // A refused action: X, with its number and the item's place, of the byte at which the item starts.
 pub fn refused_line(steps: u64, number: u8, at: usize) -> Line
     ensures { λ r. ⌜ r ≡ refusedSays steps number at ⌝ }
 {
-    Line {
-        steps: steps,
-        letter: b'X',
-        first: number as u64,
-        second: (at / 3) as u64,
-    }
+    line_of(steps, b'X', number as u64, (at / 3) as u64)
 }
 
 // An event of the node at a place, with node and lock.
 pub fn event_line(steps: u64, place: u8, event: Event) -> Line
     ensures { λ r. ⌜ r ≡ eventSays steps place event ⌝ }
 {
-    Line {
-        steps: steps,
-        letter: turns::event_letter(event),
-        first: place as u64 + 1,
-        second: turns::event_lock(event) as u64,
-    }
+    line_of(
+        steps,
+        turns::event_letter(event),
+        place as u64 + 1,
+        turns::event_lock(event) as u64,
+    )
 }
 
 // A lock and its busy steps: H.
 pub fn lock_line(steps: u64, lock: u8, busy: u64) -> Line
     ensures { λ r. ⌜ r ≡ lockSays steps lock busy ⌝ }
 {
-    Line {
-        steps: steps,
-        letter: b'H',
-        first: lock as u64,
-        second: busy,
-    }
+    line_of(steps, b'H', lock as u64, busy)
 }
 
 // The letter of the last line: C where the run was cut at the ceiling.
@@ -85,22 +82,12 @@ fn end_letter(cut: bool) -> u8
 pub fn last_line(steps: u64, cut: bool, grants: u64, failed: u64) -> Line
     ensures { λ r. ⌜ r ≡ lastSays steps cut grants failed ⌝ }
 {
-    Line {
-        steps: steps,
-        letter: end_letter(cut),
-        first: grants,
-        second: failed,
-    }
+    line_of(steps, end_letter(cut), grants, failed)
 }
 
 // A refused file: Q, with its number and 0.
 pub fn refusal_line(steps: u64, number: u8) -> Line
     ensures { λ r. ⌜ r ≡ refusalSays steps number ⌝ }
 {
-    Line {
-        steps: steps,
-        letter: b'Q',
-        first: number as u64,
-        second: 0,
-    }
+    line_of(steps, b'Q', number as u64, 0)
 }

@@ -5,22 +5,19 @@ use borrow.Author.Needs.{needs}
 use Rattle.run.proofs.current.lock_saying.Statement.{statement}
 use Rattle.run.proofs.current.lock_saying.Tie as tie
 
-cast-line-of : tie.Need-cast-line-of
-cast-line-of c = search needs
-
 count-of-requires : tie.Need-count-of-requires
 count-of-requires c κs = search needs
 
-line-of-requires : tie.Need-line-of-requires
-line-of-requires c κs = search needs
+lock-line-requires : tie.Need-lock-line-requires
+lock-line-requires c κs = search needs
 
 past-requires : tie.Need-past-requires
 past-requires c κs = search needs
 
 returns : tie.Need-returns
 unfolding saying lockLine
-returns c = simp (c .past .ensures, c .before .line-of .ensures, c .before .before .count-of .ensures)
+returns c = simp (c .past .ensures, c .before .lock-line .ensures, c .before .before .count-of .ensures)
 
 pub lock-saying-spec : {M : Type 1} → statement M
 lock-saying-spec =
-    tie.close (tie.spec cast-line-of count-of-requires line-of-requires past-requires returns)
+    tie.close (tie.spec count-of-requires lock-line-requires past-requires returns)

@@ -5,19 +5,16 @@ use borrow.Author.Needs.{needs}
 use Rattle.run.proofs.current.refusal_saying.Statement.{statement}
 use Rattle.run.proofs.current.refusal_saying.Tie as tie
 
-end-letter-requires : tie.Need-end-letter-requires
-end-letter-requires c κs = search needs
-
-line-of-requires : tie.Need-line-of-requires
-line-of-requires c κs = search needs
+refusal-line-requires : tie.Need-refusal-line-requires
+refusal-line-requires c κs = search needs
 
 all-said-requires : tie.Need-all-said-requires
 all-said-requires c κs = search needs
 
 returns : tie.Need-returns
 unfolding saying refusalLine
-returns c = simp (c .all-said .ensures, c .before .line-of .ensures, c .before .before .end-letter .ensures)
+returns c = simp (c .all-said .ensures, c .before .refusal-line .ensures)
 
 pub refusal-saying-spec : {M : Type 1} → statement M
 refusal-saying-spec =
-    tie.close (tie.spec end-letter-requires line-of-requires all-said-requires returns)
+    tie.close (tie.spec refusal-line-requires all-said-requires returns)

@@ -1,7 +1,7 @@
 -- `put` meets its contract: what the line writer promises of the part behind the used bytes, of the whole buffer.
 use mathlib.Core.Path.{sym, ap, _∙_}
 use Rattle.lines.specs.Line.{writtenLength}
-use Rattle.course.specs.Wording.{text}
+use Rattle.wording.specs.Wording.{text}
 use Rattle.run.proofs.Behind.{told-length, put-back}
 use borrow.Author.Needs.{needs}
 use Rattle.run.proofs.filling.put.Statement.{statement}

@@ -1,8 +1,8 @@
--- `current::end_letter` meets its contract. On each way to a return, the tests and calls on the way choose the case of the definition.
-use Rattle.course.specs.Wording.{endLetter}
+-- `results::is_cut` meets its contract. On each way to a return, the tests and calls on the way choose the case of the definition.
+use Rattle.course.specs.Wording.{isCut}
 use borrow.Author.Needs.{needs}
-use Rattle.run.proofs.current.end_letter.Statement.{statement}
-use Rattle.run.proofs.current.end_letter.Tie as tie
+use Rattle.run.proofs.current.is_cut.Statement.{statement}
+use Rattle.run.proofs.current.is_cut.Tie as tie
 
 enum-told : tie.Need-enum-told
 enum-told c = search needs
@@ -17,22 +17,22 @@ enum-told-4 : tie.Need-enum-told-4
 enum-told-4 c = search needs
 
 returns : tie.Need-returns
-unfolding endLetter
+unfolding isCut
 returns c = simp (c .enum-told .given .1)
 
 returns-2 : tie.Need-returns-2
-unfolding endLetter
+unfolding isCut
 returns-2 c = simp (c .enum-told2 .given .1)
 
 returns-3 : tie.Need-returns-3
-unfolding endLetter
+unfolding isCut
 returns-3 c = simp (c .enum-told3 .given .1)
 
 returns-4 : tie.Need-returns-4
-unfolding endLetter
+unfolding isCut
 returns-4 c = simp (c .enum-told4 .given .1)
 
-pub end-letter-spec : {M : Type 1} → statement M
-end-letter-spec =
+pub is-cut-spec : {M : Type 1} → statement M
+is-cut-spec =
     tie.close
     (tie.spec enum-told enum-told-2 enum-told-3 enum-told-4 returns returns-2 returns-3 returns-4)
