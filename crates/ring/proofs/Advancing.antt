@@ -49,10 +49,11 @@ goingOn zero now = now
 goingOn (suc left) now = plus (now .done) (advancing (suc left) (now .state))
 
 -- at first all steps are left
-pub all-left : (limit : ℕ) (state : State) → goingOn limit (record { state = state; events = replicate nodePlaces quiet; done = 0 }) ≡ advancing limit state
-unfolding advancing
-all-left zero state = refl
-all-left (suc n) state = ap (λ (d : ℕ). record { state = advancing (suc n) state .state; events = advancing (suc n) state .events; done = d }) (zero-add _)
+all-left : (limit : ℕ) (state : State) (events : List Happening) → advancing 0 state ≡ record { state = state; events = events; done = 0 }
+    → goingOn limit (record { state = state; events = events; done = 0 }) ≡ advancing limit state
+all-left zero state events none = sym none
+all-left (suc n) state events none =
+    ap (λ (d : ℕ). record { state = advancing (suc n) state .state; events = advancing (suc n) state .events; done = d }) (zero-add _)
 
 -- the step that is done before a step is one step more
 plus-more : (before : ℕ) (advanced : Advanced) → plus (before + 1) advanced ≡ plus before (oneMore advanced)
@@ -74,34 +75,53 @@ one-fewer (suc n) now l = go (silent (now .state)) n
         let e : suc (suc m) - 1 ≡ suc m = omega arith in
         rw (e, lt-ltb 0 (suc m) (omega arith)) (plus-more (now .done) _)
 
--- no step, and one step and those after it
-advancing-none : (state : State) → advancing 0 state ≡ record { state = state; events = replicate nodePlaces quiet; done = 0 }
-unfolding advancing
-advancing-none state = refl
+-- a step that was silent or not, the state and the events after it, and then up to n steps more
+abbrev further : Bool → ℕ → State → List Happening → Advanced
+further still n next events = cond (still && ltb 0 n) (oneMore (advancing n next)) (record { state = next; events = events; done = 1 })
 
-advancing-more : (n : ℕ) (state : State)
-    → advancing (suc n) state
-    ≡ cond (silent state && ltb 0 n) (oneMore (advancing n (stepping state .state))) (record { state = stepping state .state; events = stepping state .events; done = 1 })
+advancing-more : (n : ℕ) (state : State) → advancing (suc n) state ≡ further (silent state) n (stepping state .state) (stepping state .events)
 unfolding advancing
 advancing-more n state = refl
 
-module _ (state : State) (e : sound state ≡ false) where
-  -- a step of a state that 13 refuses
-  step-refused : stepping state ≡ refused 13 state
-  unfolding stepping
-  step-refused = simp e
+-- where a step is silent and leaves the state as it is, so do so many of them
+module _ (state : State) (events : List Happening) (none : advancing 0 state ≡ record { state = state; events = events; done = 0 })
+    (still : silent state ≡ true) (same : stepping state .state ≡ state) (told : stepping state .events ≡ events) where
+  -- a step and those after it
+  same-more : (n : ℕ) → advancing (suc n) state ≡ further true n state events
+  same-more n =
+      advancing-more n state
+      ∙ ap (λ (b : Bool). further b n (stepping state .state) (stepping state .events)) still
+      ∙ ap₂ (further true n) same told
 
-  -- it has no event
-  refused-silent : silent state ≡ true
-  unfolding silent refused noEvent quiet
-  refused-silent = every-each _ (nodeCount (state .plan)) (λ i l. rw step-refused (place-default (λ h. noEvent (h .event) ≡ true) quiet nodePlaces i refl))
+  -- all of them
+  all-same : (limit : ℕ) → advancing limit state ≡ record { state = state; events = events; done = limit }
+  unfolding oneMore
+  all-same zero = none
+  all-same (suc zero) = same-more 0
+  all-same (suc (suc n)) =
+      same-more (suc n)
+      ∙ ap (λ (b : Bool). cond b (oneMore (advancing (suc n) state)) (record { state = state; events = events; done = 1 })) (lt-ltb 0 (suc n) (omega arith))
+      ∙ ap oneMore (all-same (suc n))
+      ∙ ap (λ (d : ℕ). record { state = state; events = events; done = d }) (add-one (suc n))
 
-  -- so many of them leave the state as it is
-  pub all-refused : (limit : ℕ) → advancing limit state ≡ record { state = state; events = replicate nodePlaces quiet; done = limit }
-  unfolding refused oneMore
-  all-refused zero = advancing-none state
-  all-refused (suc zero) = advancing-more 0 state ∙ simp (refused-silent, step-refused)
-  all-refused (suc (suc n)) = advancing-more (suc n) state ∙ simp (refused-silent, step-refused, lt-ltb 0 (suc n) (omega arith), all-refused (suc n), add-one)
+-- a step of a state that 13 refuses
+step-refused : (state : State) → sound state ≡ false → stepping state ≡ refused 13 state
+unfolding stepping
+step-refused state e = rw e
+
+-- it has no event
+refused-silent : (state : State) → sound state ≡ false → silent state ≡ true
+unfolding silent refused noEvent quiet
+refused-silent state e =
+    every-each _ (nodeCount (state .plan)) (λ i l. rw (step-refused state e) (place-default (λ h. noEvent (h .event) ≡ true) quiet nodePlaces i refl))
+
+-- so many of them leave the state as it is
+pub all-refused : (state : State) (limit : ℕ) → sound state ≡ false
+    → advancing limit state ≡ record { state = state; events = replicate nodePlaces quiet; done = limit }
+unfolding refused advancing
+all-refused state limit e =
+    let refuses = step-refused state e in
+    all-same state (replicate nodePlaces quiet) refl (refused-silent state e) (ap (λ (t : StepTold). t .state) refuses) (ap (λ (t : StepTold). t .events) refuses) limit
 
 -- where the loop stands: 13 does not refuse the state, the plan has this many nodes, the steps fit 16 bits, and what is left to
 -- do leads to what was asked
@@ -114,9 +134,10 @@ pub record Going (start : State) (limit count : ℕ) (now : Advanced) (left : �
 -- at first
 pub going-start : (now : Advanced) (start : State) (limit count : ℕ) → now ≡ record { state = start; events = replicate nodePlaces quiet; done = 0 }
     → sound start ≡ true → count ≡ nodeCount (start .plan) → limit ≤ 65535 → Going (now .state) limit count now limit
+unfolding advancing
 going-start now start limit count e pass nodes most =
     subst (λ (a : Advanced). Going (a .state) limit count a limit) (sym e)
-    (record { pass = pass; nodes = sym nodes; room = omega arith; leads = all-left limit start })
+    (record { pass = pass; nodes = sym nodes; room = omega arith; leads = all-left limit start (replicate nodePlaces quiet) refl })
 
 -- a test leaves at most what it leaves where it holds
 at-most-left : (b : Bool) (left : ℕ) → cond b left 0 ≤ left

@@ -18,7 +18,7 @@ unmoved-requires : tie.Need-unmoved-requires
 unmoved-requires c κs = search needs
 
 returns-2 : tie.Need-returns-2
-returns-2 c = c .unmoved .ensures ∙ sym (all-refused _ (sym (c .before .before .sound .ensures) ∙ c .before .if1 .left) _)
+returns-2 c = c .unmoved .ensures ∙ sym (all-refused _ _ (sym (c .before .before .sound .ensures) ∙ c .before .if1 .left))
 
 pub advance-spec : {M : Type 1} → statement M
 advance-spec =
