@@ -24,6 +24,7 @@ use Rattle.ring.specs.Sound.{zeroPasses, nodePasses, junctionPasses, sou
 use Rattle.ring.specs.State.{restNode, restJunction, startOf, smallPlan, startState, nodeOf}
 use Rattle.ring.specs.Step.{nextState, stepNumber, refused, done, moving, stepping}
 use Rattle.ring.specs.Walk.{quiet, nodeHere, junctionHere, turnHere, onNode, wanted, intoSubring, outOfSubring, onJunction, onPosition, setOut, walk}
+use Rattle.ring.specs.Advance.{noEvent, silent, oneMore, advancing}
 
 unfoldable pub of-lists : ℕ
 unfolding every some total iterate inOrder refusedIf
@@ -54,5 +55,5 @@ unfolding within outside ifTrain onGotp onDidv inTour junctionRule junctionSound
 of-junction = 0
 
 unfoldable pub of-ring : ℕ
-unfolding actionNumber actedState handedBack acting zeroPasses nodePasses junctionPasses sound restNode restJunction startOf smallPlan startState nodeOf nextState stepNumber refused done moving stepping quiet nodeHere junctionHere turnHere onNode wanted intoSubring outOfSubring onJunction onPosition setOut walk
+unfolding actionNumber actedState handedBack acting zeroPasses nodePasses junctionPasses sound restNode restJunction startOf smallPlan startState nodeOf nextState stepNumber refused done moving stepping quiet nodeHere junctionHere turnHere onNode wanted intoSubring outOfSubring onJunction onPosition setOut walk noEvent silent oneMore advancing
 of-ring = 0

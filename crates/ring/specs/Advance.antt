@@ -1,4 +1,4 @@
--- Several steps at once: until one of them has an event, or so many are done.
+-- Several steps, each of them 01's step, which says itself where it is refused.
 use Prim.Native.Nat.{ℕ, zero, suc, _+_}
 use mathlib.Core.Bool.{Bool, true, false, cond, _&&_}
 use lib.Dec.{ltb}
@@ -29,8 +29,8 @@ silent state = every (λ place. noEvent (getD (stepping state .events) place qui
 unfoldable pub oneMore : Advanced → Advanced
 oneMore advanced = record { state = advanced .state; events = advanced .events; done = advanced .done + 1 }
 
--- at most so many steps, the last one the first that has an event: the state after it, its events, and how many were done.
--- A refused step counts as one: it has no events and leaves the state.
+-- steps until one has an event, or so many are done: the state after the last of them, its events, and how many were done.
+-- A refused step (13, 14, 15) counts as a step: it has no events and leaves the state.
 unfoldable pub advancing : ℕ → State → Advanced
 advancing zero state = record { state = state; events = replicate nodePlaces quiet; done = 0 }
 advancing (suc n) state =
