@@ -44,7 +44,10 @@ fn after_steps(state: State) -> State {
     say(b"steps to the first event", advanced.done as u64);
     let happening = advanced.events[0];
     let event = happening.event;
-    say(b"the letter of node 1's event, 71 for G", turns::event_letter(event) as u64);
+    say(
+        b"the letter of node 1's event, 71 for G",
+        turns::event_letter(event) as u64,
+    );
     advanced.state
 }
 
@@ -52,7 +55,10 @@ fn after_steps(state: State) -> State {
 fn refused_line() {
     let mut buffer = [b'-'; 4];
     let written = lines::write_line(&mut buffer, 0, b'T', 1, 0);
-    say(b"a line of 8 bytes into a buffer of 4", lines::written_number(written) as u64);
+    say(
+        b"a line of 8 bytes into a buffer of 4",
+        lines::written_number(written) as u64,
+    );
     io::write_all(STDOUT_FILENO, &buffer);
     io::write_all(STDOUT_FILENO, b"\n");
 }

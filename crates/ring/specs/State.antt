@@ -2,12 +2,12 @@
 use Prim.Native.Nat.{ℕ, _-_}
 use mathlib.Core.Bool.{cond, false}
 use lib.ListN.{getD, replicate}
-use Rattle.cars.specs.declared.Car.the-variants.{Idle, Token}
+use Rattle.cars.specs.declared.Car.the-variants.{Idle}
 use Rattle.plan.specs.declared.Plan.{Plan}
 use Rattle.plan.specs.Plan.{positionPlaces, nodePlaces, junctionPlaces, inRange, planNumber}
 use Rattle.usernode.specs.declared.Node.{Node}
 use Rattle.usernode.specs.declared.Activity.the-variants.{Idle as Resting}
-use Rattle.zeronode.specs.Rules.{queuePlaces, emptySlot}
+use Rattle.zeronode.specs.Rules.{zeroStart}
 use Rattle.junction.specs.declared.Junction.{Junction}
 use Rattle.ring.specs.declared.State.{State}
 use Rattle.ring.specs.declared.Started.{Started}
@@ -21,12 +21,12 @@ restNode = record { car = Idle; flag = false; activity = Resting; held = 0; lett
 unfoldable pub restJunction : Junction
 restJunction = record { main = Idle; subring = Idle; train = false; tour = false; word = 0 }
 
--- "At the start the zero node sends the token"
+-- the start: the zero node as it starts, all others at rest
 unfoldable pub startOf : Plan → State
 startOf plan =
     record {
       plan = plan;
-      zeroth = record { car = Token; queue = replicate queuePlaces emptySlot; count = 0 };
+      zeroth = zeroStart;
       nodes = replicate nodePlaces restNode;
       junctions = replicate junctionPlaces restJunction;
     }

@@ -12,8 +12,6 @@ use plan::POSITIONS;
 use plan::Plan;
 use usernode::Activity;
 use usernode::Node;
-use zeronode::PLACES;
-use zeronode::Slot;
 use zeronode::ZeroNode;
 
 // A node that rests: what an unused place holds.
@@ -58,12 +56,7 @@ fn small_plan() -> Plan
 fn start_of(plan: Plan) -> State
     ensures { λ r. ⌜ r ≡ startOf plan ⌝ }
 {
-    let queue = [Slot { car: Car::Idle }; PLACES];
-    let zeroth = ZeroNode {
-        car: Car::Token,
-        queue: queue,
-        count: 0,
-    };
+    let zeroth = ZeroNode::start();
     let nodes = [rest_node(); NODES];
     let junctions = [rest_junction(); JUNCTIONS];
     State {

@@ -2,7 +2,7 @@
 use Prim.Native.Nat.{ℕ}
 use mathlib.Core.Bool.{Bool, true, false, cond}
 use lib.Dec.{eqb}
-use lib.ListN.{getD}
+use lib.ListN.{getD, replicate}
 use Rattle.cars.specs.declared.Car.{Car}
 use Rattle.cars.specs.declared.Car.the-variants.{Idle, Token, Null, Reqp, Failp, Dov, Gotp, Didv}
 use Rattle.zeronode.specs.declared.Slot.{Slot}
@@ -17,6 +17,10 @@ queuePlaces = 65
 -- a place that is not in use: "idle"
 unfoldable pub emptySlot : Slot
 emptySlot = record { car = Idle }
+
+-- "At the start the zero node sends the token"; its queue is empty
+abbrev pub zeroStart : ZeroNode
+zeroStart = record { car = Token; queue = replicate queuePlaces emptySlot; count = 0 }
 
 -- (a) "Queue's head is the token and the arrival is idle"; a token that has to wait: (c)
 unfoldable pub onToken : Car → ZeroRule

@@ -2,7 +2,7 @@
 ghost use mathlib.Core.Path.{_≡_};
 ghost use Prim.Native.Nat.{_-_, _≤_, _<_};
 ghost use Rattle.lists.specs.Loops.{every};
-ghost use Rattle.zeronode.specs.Rules.{onToken, onHead, zeroRule, keeps};
+ghost use Rattle.zeronode.specs.Rules.{zeroStart, onToken, onHead, zeroRule, keeps};
 ghost use Rattle.zeronode.specs.Letters.{zeroLetter, zeroLetterOf};
 ghost use Rattle.zeronode.specs.Turn.{shifted, headOff, sends, appended, arrives, zeroTurn, countLeft, overflows};
 ghost use Rattle.zeronode.specs.Sound.{placeNames, zeroSound};
@@ -105,6 +105,18 @@ fn less_one(count: u8) -> u8
 }
 
 impl ZeroNode {
+    // The zero node at the start: it sends the token, and its queue is empty.
+    pub fn start() -> ZeroNode
+        ensures { λ r. ⌜ r ≡ zeroStart ⌝ }
+    {
+        let queue = [Slot { car: Car::Idle }; PLACES];
+        ZeroNode {
+            car: Car::Token,
+            queue: queue,
+            count: 0,
+        }
+    }
+
     // Which of (a), (b), (c) applies; its letter is 01's.
     pub fn rule(self, arrival: Car) -> ZeroRule
         ensures { λ r. ⌜ (r ≡ zeroRule self arrival) × (zeroLetter r ≡ zeroLetterOf self arrival) ⌝ }
