@@ -10,6 +10,7 @@ use Rattle.lists.proofs.Laws.{and-left, and-right, every-at, total-none, total-
 use Rattle.cars.specs.Cars.{multiring}
 use Rattle.plan.specs.declared.Plan.{Plan}
 use Rattle.plan.specs.Plan.{valueAt, valueInRange, placeInRange, headsInRange, inRange, sizeOf, junctionsOf, nodesBefore, junctionsBefore, nodeCount, junctionCount}
+use Rattle.plan.specs.Theorems.{AtMost64Nodes}
 
 -- six tests that hold together hold each
 all-six : (a b c d e f : Bool) → (a && b && c && d && e && f) ≡ true →
@@ -140,7 +141,7 @@ pub junctions-counted : (plan : Plan) → inRange plan ≡ true → junctionCoun
 unfolding junctionCount
 junctions-counted plan e = rw e
 
-pub nodes-count-most : (plan : Plan) → inRange plan ≡ true → nodeCount plan ≤ 64
+pub nodes-count-most : AtMost64Nodes
 nodes-count-most plan e =
     let range = in-range plan e in
     omega (arith, counted plan e, nodes-at-most plan (plan .positions) (range .values))

@@ -25,6 +25,7 @@ use Rattle.course.specs.Ready.{isAct, isAction, readyIn, ready}
 use Rattle.course.specs.Several.{AtOnce, severalSteps}
 use Rattle.run.specs.Current.{sayingNow}
 use Rattle.run.specs.Filling.{texts, fitting, stopsAt, written, filling, inBuffers, afterBuffers}
+use Rattle.run.specs.Theorems.{HeldAndStillToSay, TheBuffersHoldTheLines}
 use Rattle.run.proofs.Ready.{ready-goes, course-over}
 use Rattle.course.proofs.Way.{Way, toGo, sets-out, way-past, way-several, way-steps, past-nearer, several-nearer, steps-nearer, at-event, at-action, at-ceiling, at-items-end}
 use Rattle.run.proofs.Fills.{stopsIn, stops-fits, stops-full, written-fits, written-full, fewer-lines}
@@ -193,8 +194,7 @@ leaves ceiling schedule room run =
     leaves-within (suc (length (course ceiling schedule run .lines))) ceiling schedule room run p
 
 -- any buffers, one after the other: what they hold and what is still to be said are the definition's lines
-pub buffers-hold : (ceiling : ℕ) (schedule rooms : List ℕ) (run : Run)
-    → inBuffers ceiling schedule rooms run ++ texts (course ceiling schedule (afterBuffers ceiling schedule rooms run) .lines) ≡ texts (course ceiling schedule run .lines)
+pub buffers-hold : HeldAndStillToSay
 unfolding inBuffers afterBuffers filling
 buffers-hold ceiling schedule [] run = refl
 buffers-hold ceiling schedule (room ∷ rooms) run =
@@ -203,8 +203,7 @@ buffers-hold ceiling schedule (room ∷ rooms) run =
     ∙ leaves ceiling schedule room run .all-lines
 
 -- once the run is over they hold exactly those lines
-pub buffers-hold-all : (ceiling : ℕ) (schedule rooms : List ℕ) (run : Run) → afterBuffers ceiling schedule rooms run .over ≡ true
-    → inBuffers ceiling schedule rooms run ≡ texts (course ceiling schedule run .lines)
+pub buffers-hold-all : TheBuffersHoldTheLines
 unfolding silence texts
 buffers-hold-all ceiling schedule rooms run o =
     sym (append-nil (inBuffers ceiling schedule rooms run))

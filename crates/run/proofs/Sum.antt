@@ -1,12 +1,13 @@
--- The steps of a run are the smaller of the ceiling and the schedule's sum, and it is cut where the sum is above the ceiling.
+-- The steps of a run are the smaller of the ceiling and the schedule's sum, and it is cut where the sum is above the ceiling; a refused file gives
+-- its number only.
 use Prim.Native.Nat.{ℕ, zero, suc, _+_, _-_, _≤_, _<_, min}
 use mathlib.Core.Path.{_≡_, refl, _∙_, sym, ap, subst}
 use mathlib.Core.Bool.{Bool, true, false, cond}
 use mathlib.Core.List.{List, [], _∷_, append-nil}
 use native.Mathlib.Nat.{zero-add}
 use native.Mathlib.Omega.{arith}
-use lib.Dec.{ltb}
-use borrow.Author.Tests.{ltb-true, ltb-false, lt-ltb, le-ltb, eq-eqb, ne-eqb}
+use lib.Dec.{eqb, ltb}
+use borrow.Author.Tests.{eqb-true, eqb-false, ltb-true, ltb-false, lt-ltb, le-ltb, eq-eqb, ne-eqb}
 use Rattle.items.specs.declared.Item.{Item}
 use Rattle.items.specs.declared.Item.the-variants.{Steps, Act}
 use Rattle.nightfile.specs.File.{fileNumber, schedulePart}
@@ -21,16 +22,23 @@ use Rattle.wording.specs.Wording.{text, lineOf, refusalSays}
 use Rattle.course.specs.Wording.{eventHere, isEvent, isCut, refusalLine}
 use Rattle.course.specs.Whole.{Course, says, silence, telling, tellingAll, closing, closingAll, manySteps, items, itemsFrom, stepsIn, onItems, onSteps, working, courseIn, course}
 use Rattle.course.proofs.Moves.{AtItems, course-items, withNext}
+use Rattle.run.specs.Theorems.{TheSmallerOfBoth, CutAboveTheCeiling, OnlyTheNumber, TheNumberInTheResult}
 use Rattle.run.specs.Outcomes.{refusalOf, outcomeOf, fileCourse, fileOutcome, fileText, scheduleSum}
 
 -- a course that ends with the smaller of the ceiling and a sum
 pub record Ends (ceiling sum : ℕ) (c : Course) : Type 0 where
   pub steps : c .end .reached .steps ≡ min ceiling sum
   pub cut : isCut (c .end .phase) ≡ ltb ceiling sum
+  pub number : refusalOf (c .end .phase) ≡ 0
 
 -- a line said changes nothing of that
 ends-says : (ceiling sum : ℕ) (event : Bool) (a b : Course) → a .end ≡ b .end → Ends ceiling sum b → Ends ceiling sum (cond event a b)
-ends-says ceiling sum true a b e i = record { steps = ap (λ (r : Run). r .reached .steps) e ∙ i .steps; cut = ap (λ (r : Run). isCut (r .phase)) e ∙ i .cut }
+ends-says ceiling sum true a b e i =
+    record {
+      steps = ap (λ (r : Run). r .reached .steps) e ∙ i .steps;
+      cut = ap (λ (r : Run). isCut (r .phase)) e ∙ i .cut;
+      number = ap (λ (r : Run). refusalOf (r .phase)) e ∙ i .number;
+    }
 ends-says ceiling sum false a b e i = i
 
 ends-telling : (ceiling sum n : ℕ) (run : Run) (then : Run → Course)
@@ -51,12 +59,13 @@ closing-phase zero run = refl
 closing-phase (suc n) run = closing-phase n (past run)
 
 ends-closing : (ceiling sum n : ℕ) (phase : Phase) (run : Run) → run .reached .steps ≡ min ceiling sum → isCut phase ≡ ltb ceiling sum
-    → Ends ceiling sum (closing n (atEnd phase run))
+    → refusalOf phase ≡ 0 → Ends ceiling sum (closing n (atEnd phase run))
 unfolding atEnd
-ends-closing ceiling sum n phase run s c =
+ends-closing ceiling sum n phase run s c none =
     record {
       steps = ap (λ (r : Reached). r .steps) (closing-reached n (atEnd phase run)) ∙ s;
       cut = ap isCut (closing-phase n (atEnd phase run)) ∙ c;
+      number = ap refusalOf (closing-phase n (atEnd phase run)) ∙ none;
     }
 
 -- so many steps, and then the rest
@@ -64,14 +73,14 @@ ends-step : (ceiling sum n : ℕ) (run : Run) (then : Run → Course) (room : Bo
     → ((r : Run) → r .reached .steps ≡ run .reached .steps + 1 → r .reached .steps ≤ ceiling → r .at ≡ run .at → Ends ceiling sum (then r))
     → ltb (run .reached .steps) ceiling ≡ room
     → Ends ceiling sum (cond room (tellingAll (oneStep run) then) (closingAll (atEnd Cut run)))
-unfolding tellingAll oneStep reachedNext closingAll isCut
+unfolding tellingAll oneStep reachedNext closingAll isCut refusalOf
 ends-step ceiling sum n run then true most less again e =
     let under : run .reached .steps < ceiling = ltb-true (run .reached .steps) ceiling e in
     ends-telling ceiling sum _ (oneStep run) then (λ next. again (withNext (oneStep run) next) refl (omega (arith, under)) refl)
 ends-step ceiling sum n run then false most less again e =
     let above : ceiling ≤ run .reached .steps = ltb-false (run .reached .steps) ceiling e in
     let over : ceiling < sum = omega arith in
-    ends-closing ceiling sum _ Cut run (omega arith) (sym (lt-ltb ceiling sum over))
+    ends-closing ceiling sum _ Cut run (omega arith) (sym (lt-ltb ceiling sum over)) refl
 
 ends-steps : (ceiling sum n : ℕ) (run : Run) (then : Run → Course) → run .reached .steps ≤ ceiling → run .reached .steps + n ≤ sum
     → ((r : Run) → r .reached .steps ≡ run .reached .steps + n → r .reached .steps ≤ ceiling → r .at ≡ run .at → Ends ceiling sum (then r))
@@ -85,17 +94,17 @@ ends-steps ceiling sum (suc n) run then most less again =
 
 -- all items
 ends-items : (ceiling sum : ℕ) (l : List Item) (run : Run) → run .reached .steps ≤ ceiling → sum ≡ run .reached .steps + stepsIn l → Ends ceiling sum (items ceiling l run)
-unfolding items stepsIn closingAll isCut stepsItem actionItem says
+unfolding items stepsIn closingAll isCut refusalOf stepsItem actionItem says
 ends-items ceiling sum [] run most e =
     let under : sum ≤ ceiling = omega (arith, e) in
-    ends-closing ceiling sum _ Ended run (omega (arith, e)) (sym (le-ltb ceiling sum under))
+    ends-closing ceiling sum _ Ended run (omega (arith, e)) (sym (le-ltb ceiling sum under)) refl
 ends-items ceiling sum (Steps n ∷ rest) run most e =
     let l : run .reached .steps + n ≤ sum = omega (arith, e) in
     ends-steps ceiling sum n (stepsItem n run) (items ceiling rest) most l
     (λ r f m p. let g : sum ≡ r .reached .steps + stepsIn rest = omega (arith, e, f) in ends-items ceiling sum rest r m g)
 ends-items ceiling sum (Act action node lock ∷ rest) run most e =
     let i = ends-items ceiling sum rest (actionItem action node lock run) most e in
-    record { steps = i .steps; cut = i .cut }
+    record { steps = i .steps; cut = i .cut; number = i .number }
 
 -- a run from where it stands: the steps done, those left of the item, and those of the items to come
 pub run-ends : (ceiling : ℕ) (schedule : List ℕ) (run : Run) → AtItems run → run .reached .steps ≤ ceiling
@@ -122,11 +131,11 @@ file-ends ceiling file e =
     subst (λ (sum : ℕ). Ends ceiling sum (course ceiling (schedulePart file) (beginning file))) (zero-add (stepsIn (itemsFrom (schedulePart file) 0)))
     (run-ends ceiling (schedulePart file) (beginning file) (beginning-items file e) (omega arith))
 
-pub file-steps : (ceiling : ℕ) (file : List ℕ) → fileNumber file ≡ 0 → fileOutcome ceiling file .steps ≡ min ceiling (scheduleSum (schedulePart file))
+pub file-steps : TheSmallerOfBoth
 unfolding fileOutcome outcomeOf
 file-steps ceiling file e = file-ends ceiling file e .steps
 
-pub file-cut : (ceiling : ℕ) (file : List ℕ) → fileNumber file ≡ 0 → fileOutcome ceiling file .cut ≡ ltb ceiling (scheduleSum (schedulePart file))
+pub file-cut : CutAboveTheCeiling
 unfolding fileOutcome outcomeOf
 file-cut ceiling file e = file-ends ceiling file e .cut
 
@@ -140,11 +149,20 @@ refused-phase : (file : List ℕ) → (fileNumber file ≡ 0 → ⊥) → beginn
 unfolding beginning
 refused-phase file e = simp (ne-eqb _ _ e)
 
-pub refused-text : (ceiling : ℕ) (file : List ℕ) → (fileNumber file ≡ 0 → ⊥) → fileText ceiling file ≡ line 0 81 (fileNumber file) 0
+pub refused-text : OnlyTheNumber
 unfolding fileText says silence texts text refusalLine refusalSays lineOf beginning
 refused-text ceiling file e = ap (λ (c : Course). texts (c .lines)) (refused-course ceiling file e) ∙ append-nil _
 
-pub refused-outcome : (ceiling : ℕ) (file : List ℕ) → (fileNumber file ≡ 0 → ⊥) → fileOutcome ceiling file .refusal ≡ fileNumber file
+refused-outcome : (ceiling : ℕ) (file : List ℕ) → (fileNumber file ≡ 0 → ⊥) → fileOutcome ceiling file .refusal ≡ fileNumber file
 unfolding fileOutcome outcomeOf says silence allSaid refusalOf
 refused-outcome ceiling file e =
     ap (λ (c : Course). refusalOf (c .end .phase)) (refused-course ceiling file e) ∙ ap refusalOf (refused-phase file e)
+
+-- the number in the result, of any file
+pub file-refusal : TheNumberInTheResult
+unfolding fileOutcome outcomeOf
+file-refusal ceiling file = go (eqb (fileNumber file) 0) refl
+  where
+    go : (accepted : Bool) → eqb (fileNumber file) 0 ≡ accepted → fileOutcome ceiling file .refusal ≡ fileNumber file
+    go true e = let none : fileNumber file ≡ 0 = eqb-true _ _ e in file-ends ceiling file none .number ∙ sym none
+    go false e = refused-outcome ceiling file (eqb-false _ _ e)

@@ -1,3 +1,4 @@
 pub mod Current
 pub mod Filling
 pub mod Outcomes
+pub mod Theorems

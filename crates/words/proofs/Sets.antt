@@ -11,6 +11,7 @@ use lib.Dec.{eqb, ltb, lit<, eqb·zero-suc, eqb·suc-zero, eqb·suc-suc}
 use lib.Pow.{pow-lt}
 use borrow.Author.Tests.{lt-ltb, le-ltb, eqb-true, eqb-false}
 use Rattle.words.specs.Words.{has, withLock, withoutLock, least}
+use Rattle.words.specs.Theorems.{SameLocksSameWord, SetAddsOne, ClearTakesOne, TheLeastIsInIt, NoneBelowTheLeast}
 use Rattle.words.proofs.Bits.{has-above}
 
 -- what holds of both values of a choice holds of the choice
@@ -76,13 +77,13 @@ pub has-or : (a b lock : ℕ) → has (bitOr a b) lock ≡ (has a lock || has b 
 has-or = has-op bitOr _||_ or-shr or-mod refl refl refl refl
 
 -- setting a lock adds it and changes no other
-pub has-with : (word lock other : ℕ) → lock < 64 → has (withLock word lock) other ≡ (has word other || eqb other lock)
+pub has-with : SetAddsOne
 unfolding withLock
 has-with word lock other h =
     rw (lt-ltb lock 64 h, ← has-power lock other) (has-or word (2 ^ lock) other)
 
 -- clearing a lock removes it and changes no other
-pub has-without : (word lock other : ℕ) → lock < 64 → has (withoutLock word lock) other ≡ (has word other && not (eqb other lock))
+pub has-without : ClearTakesOne
 unfolding withoutLock
 has-without word lock other h =
     rw (lt-ltb lock 64 h, ← has-power lock other)
@@ -122,7 +123,7 @@ same-in (suc n) a b p q same =
     omega arith
 
 -- two words with the same locks are equal
-pub same-members : (a b : ℕ) → a < 2 ^ 64 → b < 2 ^ 64 → ((k : ℕ) → k < 64 → has a k ≡ has b k) → a ≡ b
+pub same-members : SameLocksSameWord
 same-members = same-in 64
 
 -- the least of n + 1 digits is 0 where lock 0 is in the word, and else one more than the least of the half
@@ -139,7 +140,7 @@ member-in (suc n) word h some =
     (λ e. has-suc word _ ∙ member-in n (word / 2) (half-fits n word h) (λ none. some (omega (arith, rw e at (low-digit word)))))
 
 -- the least lock of a word that is not empty is in it
-pub least-member : (word : ℕ) → word < 2 ^ 64 → (word ≡ 0 → ⊥) → has word (least word) ≡ true
+pub least-member : TheLeastIsInIt
 unfolding least
 least-member = member-in 64
 
@@ -153,6 +154,6 @@ least-in (suc n) word (suc lock) =
     (λ e h. has-suc word lock ∙ least-in n (word / 2) lock (omega arith))
 
 -- no lock below the least is in the word
-pub least-least : (word lock : ℕ) → lock < least word → has word lock ≡ false
+pub least-least : NoneBelowTheLeast
 unfolding least
 least-least = least-in 64

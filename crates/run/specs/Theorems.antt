@@ -1,0 +1,43 @@
+-- What proofs/ proves over the definitions, as sentences: of every file under every ceiling, and of buffers of any sizes.
+use Prim.Native.Nat.{ℕ, min}
+use mathlib.Core.Path.{_≡_}
+use mathlib.Core.Bool.{true}
+use mathlib.Core.List.{List, _++_}
+use lib.Dec.{ltb}
+use Rattle.nightfile.specs.File.{fileNumber, schedulePart}
+use Rattle.lines.specs.Line.{line}
+use Rattle.course.specs.declared.Run.{Run}
+use Rattle.course.specs.Whole.{course}
+use Rattle.run.specs.Filling.{texts, inBuffers, afterBuffers}
+use Rattle.run.specs.Outcomes.{fileOutcome, fileText, scheduleSum}
+
+-- "the steps it reports are the smaller of the ceiling and the schedule's sum"
+abbrev pub TheSmallerOfBoth : Type 0
+TheSmallerOfBoth =
+    (ceiling : ℕ) (file : List ℕ) → fileNumber file ≡ 0 → fileOutcome ceiling file .steps ≡ min ceiling (scheduleSum (schedulePart file))
+
+-- "C where the schedule's sum is above the ceiling"
+abbrev pub CutAboveTheCeiling : Type 0
+CutAboveTheCeiling =
+    (ceiling : ℕ) (file : List ℕ) → fileNumber file ≡ 0 → fileOutcome ceiling file .cut ≡ ltb ceiling (scheduleSum (schedulePart file))
+
+-- "A refused file gives only "0 Q number 0"."
+abbrev pub OnlyTheNumber : Type 0
+OnlyTheNumber = (ceiling : ℕ) (file : List ℕ) → (fileNumber file ≡ 0 → ⊥) → fileText ceiling file ≡ line 0 81 (fileNumber file) 0
+
+-- the result has the file's number, 0 where the file is accepted
+abbrev pub TheNumberInTheResult : Type 0
+TheNumberInTheResult = (ceiling : ℕ) (file : List ℕ) → fileOutcome ceiling file .refusal ≡ fileNumber file
+
+-- buffers of any sizes, filled one after the other from any run: what they hold and what is still to be said are the run's lines
+abbrev pub HeldAndStillToSay : Type 0
+HeldAndStillToSay =
+    (ceiling : ℕ) (schedule rooms : List ℕ) (run : Run)
+    → inBuffers ceiling schedule rooms run ++ texts (course ceiling schedule (afterBuffers ceiling schedule rooms run) .lines)
+    ≡ texts (course ceiling schedule run .lines)
+
+-- once the run is over they hold exactly its lines
+abbrev pub TheBuffersHoldTheLines : Type 0
+TheBuffersHoldTheLines =
+    (ceiling : ℕ) (schedule rooms : List ℕ) (run : Run) → afterBuffers ceiling schedule rooms run .over ≡ true
+    → inBuffers ceiling schedule rooms run ≡ texts (course ceiling schedule run .lines)
