@@ -1,15 +1,17 @@
 -- What proofs/ proves over the definitions, as sentences: of every file under every ceiling, and of buffers of any sizes.
-use Prim.Native.Nat.{ℕ, min}
+use Prim.Native.Nat.{ℕ, _≤_, _<_, min}
 use mathlib.Core.Path.{_≡_}
 use mathlib.Core.Bool.{true}
 use mathlib.Core.List.{List, _++_}
 use lib.Dec.{ltb}
+use lib.ListN.{length, getD, take}
 use Rattle.nightfile.specs.File.{fileNumber, schedulePart}
 use Rattle.lines.specs.Line.{line}
 use Rattle.course.specs.declared.Run.{Run}
-use Rattle.course.specs.Whole.{course}
-use Rattle.run.specs.Filling.{texts, inBuffers, afterBuffers}
-use Rattle.run.specs.Outcomes.{fileOutcome, fileText, scheduleSum}
+use Rattle.course.specs.Standing.{beginning}
+use Rattle.course.specs.Whole.{Course, course}
+use Rattle.run.specs.Filling.{texts, written, filling, filledBuffer, inBuffers, afterBuffers}
+use Rattle.run.specs.Outcomes.{fileCourse, fileOutcome, fileText, scheduleSum}
 
 -- "the steps it reports are the smaller of the ceiling and the schedule's sum"
 abbrev pub TheSmallerOfBoth : Type 0
@@ -41,3 +43,20 @@ abbrev pub TheBuffersHoldTheLines : Type 0
 TheBuffersHoldTheLines =
     (ceiling : ℕ) (schedule rooms : List ℕ) (run : Run) → afterBuffers ceiling schedule rooms run .over ≡ true
     → inBuffers ceiling schedule rooms run ≡ texts (course ceiling schedule run .lines)
+
+-- the bytes that a buffer is used for are those that are written into it
+abbrev pub TheUsedBytesAreWritten : Type 0
+TheUsedBytesAreWritten =
+    (buffer : List ℕ) (course : Course) → take (filling (length buffer) course .used) (filledBuffer buffer course) ≡ written (length buffer) course
+
+-- buffers of any sizes, filled from the beginning of a file, accepted or refused: once the run is over they hold exactly the file's lines
+abbrev pub TheBuffersHoldTheFile : Type 0
+TheBuffersHoldTheFile =
+    (ceiling : ℕ) (file rooms : List ℕ) → afterBuffers ceiling (schedulePart file) rooms (beginning file) .over ≡ true
+    → inBuffers ceiling (schedulePart file) rooms (beginning file) ≡ fileText ceiling file
+
+-- and it does come to be over: as many buffers as the file has lines are enough, if each has room for any line, which is 65 bytes
+abbrev pub EnoughBuffersEndTheRun : Type 0
+EnoughBuffersEndTheRun =
+    (ceiling : ℕ) (file rooms : List ℕ) → ((place : ℕ) → place < length rooms → 65 ≤ getD rooms place 0)
+    → length (fileCourse ceiling file .lines) ≤ length rooms → afterBuffers ceiling (schedulePart file) rooms (beginning file) .over ≡ true
