@@ -37,6 +37,10 @@ pub step-nodes : (run : Run) → nodesOf (oneStep run) ≡ nodesOf run
 unfolding nodesOf oneStep reachedNext
 step-nodes run = ap nodeCount (stepping-plan (run .reached .state))
 
+pub action-nodes : (action : Action) (node lock : ℕ) (run : Run) → nodesOf (actionItem action node lock run) ≡ nodesOf run
+unfolding nodesOf actionItem
+action-nodes action node lock run = ap nodeCount (acting-plan action (run .reached .state) node lock)
+
 -- there are places for all its nodes
 pub nodes-most : (run : Run) → nodesOf run ≤ 64
 unfolding nodesOf
@@ -196,7 +200,7 @@ pub on-action : (ceiling : ℕ) (schedule : List ℕ) (run : Run) (action : Acti
     → course ceiling schedule run ≡ says (actionLine action node lock run) run (actionItem action node lock run) (course ceiling schedule (actionItem action node lock run))
 unfolding onItems items actionItem nodesOf
 on-action ceiling schedule run action node lock i told left found =
-    let kept : nodesOf (actionItem action node lock run) ≡ nodesOf run = ap nodeCount (acting-plan action (run .reached .state) node lock) in
+    let kept : nodesOf (actionItem action node lock run) ≡ nodesOf run = action-nodes action node lock run in
     steps-done ceiling schedule run i told left
     ∙ ap (λ (l : List Item). items ceiling l run) (items-found schedule (run .at) (Act action node lock) found)
     ∙ ap (says (actionLine action node lock run) run (actionItem action node lock run))

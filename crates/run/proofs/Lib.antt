@@ -5,4 +5,6 @@ pub mod Buffers
 pub mod Along
 pub mod Enough
 pub mod Sum
+pub mod ShortSum
+pub mod Caps
 pub mod Callers

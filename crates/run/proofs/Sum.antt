@@ -140,7 +140,7 @@ unfolding fileOutcome outcomeOf
 file-cut ceiling file e = file-ends ceiling file e .cut
 
 -- a refused file: "A refused file gives only "0 Q number 0"."
-refused-course : (ceiling : ℕ) (file : List ℕ) → (fileNumber file ≡ 0 → ⊥)
+pub refused-course : (ceiling : ℕ) (file : List ℕ) → (fileNumber file ≡ 0 → ⊥)
     → fileCourse ceiling file ≡ says (refusalLine (fileNumber file) (beginning file)) (beginning file) (allSaid (beginning file)) (silence (allSaid (beginning file)))
 unfolding fileCourse course courseIn beginning
 refused-course ceiling file e = simp (ne-eqb _ _ e)

@@ -1,5 +1,5 @@
 -- What proofs/ proves over the definitions, as sentences: of every file under every ceiling, and of buffers of any sizes.
-use Prim.Native.Nat.{ℕ, _≤_, _<_, min}
+use Prim.Native.Nat.{ℕ, _+_, _*_, _^_, _≤_, _<_, min}
 use mathlib.Core.Path.{_≡_}
 use mathlib.Core.Bool.{true}
 use mathlib.Core.List.{List, _++_}
@@ -8,7 +8,7 @@ use lib.ListN.{length, getD, take}
 use Rattle.nightfile.specs.File.{fileNumber, schedulePart}
 use Rattle.lines.specs.Line.{line}
 use Rattle.course.specs.declared.Run.{Run}
-use Rattle.course.specs.Standing.{beginning}
+use Rattle.course.specs.Standing.{nodesOf, beginning}
 use Rattle.course.specs.Whole.{Course, course}
 use Rattle.run.specs.Filling.{texts, written, filling, filledBuffer, inBuffers, afterBuffers}
 use Rattle.run.specs.Outcomes.{fileCourse, fileOutcome, fileText, scheduleSum}
@@ -60,3 +60,16 @@ abbrev pub EnoughBuffersEndTheRun : Type 0
 EnoughBuffersEndTheRun =
     (ceiling : ℕ) (file rooms : List ℕ) → ((place : ℕ) → place < length rooms → 65 ≤ getD rooms place 0)
     → length (fileCourse ceiling file .lines) ≤ length rooms → afterBuffers ceiling (schedulePart file) rooms (beginning file) .over ≡ true
+
+-- the counts of a run have 64 bits, and one that is at its top, 2 ^ 64 - 1, stays there (tally, `more` and `addUp`). At the end of a run they are
+-- far below it: the steps are fewer than 2 ^ 32, a lock is busy at most once a step, and each of at most 64 nodes has at most one event a step.
+-- So nothing was cut off on the way.
+pub record SmallCounts (ceiling : ℕ) (file : List ℕ) : Type 0 where
+  pub steps : fileOutcome ceiling file .steps < 2 ^ 32
+  pub busy : (lock : ℕ) → getD (fileOutcome ceiling file .busy) lock 0 ≤ fileOutcome ceiling file .steps
+  pub events : fileOutcome ceiling file .grants + fileOutcome ceiling file .failed ≤ nodesOf (beginning file) * fileOutcome ceiling file .steps
+  pub nodes : nodesOf (beginning file) ≤ 64
+
+-- of every file, accepted or refused, under every ceiling; a file's bytes are below 256
+abbrev pub NoCountIsCapped : Type 0
+NoCountIsCapped = (ceiling : ℕ) (file : List ℕ) → ((place : ℕ) → getD file place 0 < 256) → SmallCounts ceiling file

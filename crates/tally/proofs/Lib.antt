@@ -2,3 +2,4 @@ pub mod Laws
 pub mod Times
 pub mod Kept
 pub mod Silent
+pub mod Small
