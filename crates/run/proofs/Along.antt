@@ -8,7 +8,7 @@ use lib.Dec.{ltb}
 use Rattle.acts.specs.declared.Action.{Action}
 use Rattle.items.specs.declared.Item.{Item}
 use Rattle.items.specs.declared.Item.the-variants.{Steps, Act}
-use Rattle.course.specs.declared.Line.{Line}
+use Rattle.wording.specs.declared.Line.{Line}
 use Rattle.course.specs.declared.Reached.{Reached}
 use Rattle.course.specs.declared.Run.{Run}
 use Rattle.course.specs.declared.Phase.{Phase}

@@ -60,6 +60,7 @@ pub zero-node-of : ZeroNodeOf
 zero-node-of =
     record {
       keeps = (λ a. tt, λ a x y d e. same);
+      start = (λ a. tt, λ a x y d e. same);
       rule = (λ a. tt, λ a x y d e p q. same (p .0) (q .0));
       turn = (λ a. tt, λ a x y d e. same);
       overflows = (λ a. tt, λ a x y d e. same);

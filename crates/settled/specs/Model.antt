@@ -24,6 +24,7 @@ use Rattle.acts.proofs.answer_number.Reads as answer-number
 use Rattle.acts.proofs.answer.Reads as answer
 use Rattle.acts.proofs.acted.Reads as acted
 use Rattle.zeronode.proofs.keeps.Reads as keeps
+use Rattle.zeronode.proofs.ZeroNode.start.Reads as start
 use Rattle.zeronode.proofs.ZeroNode.rule.Reads as zeronode-rule
 use Rattle.zeronode.proofs.ZeroNode.turn.Reads as turn
 use Rattle.zeronode.proofs.ZeroNode.overflows.Reads as overflows
@@ -36,7 +37,7 @@ use Rattle.junction.proofs.Junction.turn.Reads as junction-turn
 use Rattle.junction.proofs.Junction.sound.Reads as junction-sound
 use Rattle.ring.proofs.plan_number.Reads as plan-number
 use Rattle.ring.proofs.step_number.Reads as step-number
-use Rattle.ring.proofs.State.start.Reads as start
+use Rattle.ring.proofs.State.start.Reads as ring-start
 use Rattle.ring.proofs.State.sound.Reads as ring-sound
 use Rattle.ring.proofs.State.act.Reads as act
 use Rattle.ring.proofs.State.take.Reads as take
@@ -91,6 +92,7 @@ pub record Acts : Type 0 where
 -- zeronode
 pub record ZeroNodeOf : Type 0 where
   pub keeps : Settled (keeps.Asked tt) (keeps.Learnt tt)
+  pub start : Settled (start.Asked tt) (start.Learnt tt)
   pub rule : Settled (zeronode-rule.Asked tt) (zeronode-rule.Learnt tt)
   pub turn : Settled (turn.Asked tt) (turn.Learnt tt)
   pub overflows : Settled (overflows.Asked tt) (overflows.Learnt tt)
@@ -112,7 +114,7 @@ pub record JunctionOf : Type 0 where
 pub record Ring : Type 0 where
   pub plan-number : Settled (plan-number.Asked tt) (plan-number.Learnt tt)
   pub step-number : Settled (step-number.Asked tt) (step-number.Learnt tt)
-  pub start : Settled (start.Asked tt) (start.Learnt tt)
+  pub start : Settled (ring-start.Asked tt) (ring-start.Learnt tt)
   pub sound : Settled (ring-sound.Asked tt) (ring-sound.Learnt tt)
   pub act : Settled (act.Asked tt) (act.Learnt tt)
   pub take : Settled (take.Asked tt) (take.Learnt tt)
