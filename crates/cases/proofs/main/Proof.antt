@@ -15,55 +15,42 @@ Inv-loop count agreed₀ argument₀ agreed argument = (1 ≤ argument) × (agre
 abbrev μ-loop : tie.MeasureT-loop
 μ-loop count agreed₀ argument₀ agreed argument = count - argument
 
--- src/main.rt:52:9
 arg-count-requires : tie.Need-arg-count-requires Inv-loop μ-loop
 arg-count-requires c κs = search needs
 
--- src/main.rt:55:5
 loop-holds : tie.Need-loop-holds Inv-loop μ-loop
 loop-holds c = search needs
 
--- src/main.rt:56:12
 show-case-requires : tie.Need-show-case-requires Inv-loop μ-loop
 show-case-requires c κs = search needs
 
--- src/main.rt:57:13
 add-agreed : tie.Need-add-agreed Inv-loop μ-loop
 add-agreed c = search needs
 
--- src/main.rt:58:13
 add-argument : tie.Need-add-argument Inv-loop μ-loop
 add-argument c = search needs
 
--- src/main.rt:55:5
 loop-less : tie.Need-loop-less Inv-loop μ-loop
 loop-less c = search needs
 
--- src/main.rt:55:5
 loop-again : tie.Need-loop-again Inv-loop μ-loop
 loop-again c = search needs
 
--- src/main.rt:60:13
 add-argument-2 : tie.Need-add-argument-2 Inv-loop μ-loop
 add-argument-2 c = search needs
 
--- src/main.rt:55:5
 loop-less-2 : tie.Need-loop-less-2 Inv-loop μ-loop
 loop-less-2 c = search needs
 
--- src/main.rt:55:5
 loop-again-2 : tie.Need-loop-again-2 Inv-loop μ-loop
 loop-again-2 c = search needs
 
--- src/main.rt:63:24
 sub-show-total : tie.Need-sub-show-total Inv-loop μ-loop
 sub-show-total c = search needs
 
--- src/main.rt:63:5
 show-total-requires : tie.Need-show-total-requires Inv-loop μ-loop
 show-total-requires c κs = search needs
 
--- src/main.rt:51:1
 returns : tie.Need-returns Inv-loop μ-loop
 returns c = search needs
 

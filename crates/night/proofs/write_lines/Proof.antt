@@ -20,47 +20,36 @@ Inv-loop schedule buffer₀ run₀ buffer run = length buffer ≡ 65536
 abbrev μ-loop : tie.MeasureT-loop
 μ-loop schedule buffer₀ run₀ buffer run = length (course 1000000 schedule run .lines)
 
--- src/main.rt:21:22
 large-buffer-requires : tie.Need-large-buffer-requires Inv-loop μ-loop
 large-buffer-requires c κs = search needs
 
--- src/main.rt:23:5
 loop-holds : tie.Need-loop-holds Inv-loop μ-loop
 loop-holds c = search needs
 
--- src/main.rt:24:50
 slice-aggregate-fill : tie.Need-slice-aggregate-fill Inv-loop μ-loop
 slice-aggregate-fill c = search needs
 
--- src/main.rt:24:13
 fill-requires : tie.Need-fill-requires Inv-loop μ-loop
 fill-requires c κs = search needs
 
--- src/main.rt:26:23
 array-share-prefix-buffer : tie.Need-array-share-prefix-buffer Inv-loop μ-loop
 array-share-prefix-buffer c = used-within _ _ _ _ (c .before .fill .ensures .0) (c .before .fill .ensures .1)
 
--- src/main.rt:26:23
 slice-aggregate-write-out : tie.Need-slice-aggregate-write-out Inv-loop μ-loop
 slice-aggregate-write-out c = front _ _ (used-within _ _ _ _ (c .before .before .fill .ensures .0) (c .before .before .fill .ensures .1))
 
--- src/main.rt:26:13
 write-out-requires : tie.Need-write-out-requires Inv-loop μ-loop
 write-out-requires c κs = search needs
 
--- src/main.rt:27:13
 returns : tie.Need-returns Inv-loop μ-loop
 returns c = search needs
 
--- src/main.rt:31:13
 returns-2 : tie.Need-returns-2 Inv-loop μ-loop
 returns-2 c = search needs
 
--- src/main.rt:23:5
 loop-less : tie.Need-loop-less Inv-loop μ-loop
 loop-less c = fewer-left _ _ (c .before .before .before .before .before .before .before .before .loop .buffer) _ _ (c .before .before .before .before .before .before .fill .ensures .0) (omega (arith, c .before .before .before .before .before .before .before .before .loop .inv)) (c .if2 .left)
 
--- src/main.rt:23:5
 loop-again : tie.Need-loop-again Inv-loop μ-loop
 loop-again c = search needs
 

@@ -8,16 +8,13 @@ use Rattle.words.proofs.has.Tie as tie
 use Rattle.words.proofs.has.Reads as reads
 use Rattle.words.proofs.has.Lts as lts
 
--- src/lib.rt:11:17
 shr-result : tie.Need-shr-result
 shr-result c = search needs
 
--- src/lib.rt:11:9
 returns : tie.Need-returns
 unfolding has
 returns c = refl
 
--- src/lib.rt:7:1
 returns-2 : tie.Need-returns-2
 returns-2 c = sym (has-beyond _ _ (search needs) (c .if1 .left))
 

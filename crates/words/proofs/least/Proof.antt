@@ -8,11 +8,9 @@ use Rattle.words.proofs.least.Tie as tie
 use Rattle.words.proofs.least.Reads as reads
 use Rattle.words.proofs.least.Lts as lts
 
--- src/lib.rt:40:5
 cast-result : tie.Need-cast-result
 cast-result c = record { fits = omega (arith, trailing-le 64 (c .args .word)) }
 
--- src/lib.rt:37:1
 returns : tie.Need-returns
 unfolding least
 returns c = refl

@@ -8,16 +8,13 @@ use Rattle.words.proofs.with_lock.Tie as tie
 use Rattle.words.proofs.with_lock.Reads as reads
 use Rattle.words.proofs.with_lock.Lts as lts
 
--- src/lib.rt:21:24
 shl-result : tie.Need-shl-result
 shl-result c = search needs
 
--- src/lib.rt:21:9
 returns : tie.Need-returns
 unfolding withLock
 returns c = simp (lt-ltb _ _ (c .if1 .taken), one-shifted _ (c .if1 .taken))
 
--- src/lib.rt:17:1
 returns-2 : tie.Need-returns-2
 unfolding withLock
 returns-2 c = simp (le-ltb _ _ (c .if1 .left))

@@ -11,91 +11,69 @@ use Rattle.cases.proofs.reading.read_path.Reads as read-path-reads
 use Rattle.io.proofs.buffer.Reads as buffer-reads
 use Rattle.os.proofs.arg.Reads as arg-reads
 
--- src/reading.rt:37:20
 buffer-requires : tie.Need-buffer-requires
 buffer-requires c κs = search needs
 
--- src/reading.rt:38:36
 slice-aggregate-arg : tie.Need-slice-aggregate-arg
 slice-aggregate-arg c = search needs
 
--- src/reading.rt:38:9
 arg-requires : tie.Need-arg-requires
 arg-requires c κs = search needs
 
--- src/reading.rt:40:9
 not-read-requires : tie.Need-not-read-requires
 not-read-requires c κs = search needs
 
--- src/reading.rt:40:9
 returns : tie.Need-returns
 returns c = search needs
 
--- src/reading.rt:42:20
 element-copy-out-path : tie.Need-element-copy-out-path
 element-copy-out-path c = search needs
 
--- src/reading.rt:42:5
 array-write-path : tie.Need-array-write-path
 array-write-path c = search needs
 
--- src/reading.rt:43:24
 element-copy-out-path-2 : tie.Need-element-copy-out-path-2
 element-copy-out-path-2 c = search needs
 
--- src/reading.rt:43:10
 add-path : tie.Need-add-path
 add-path c = search needs
 
--- src/reading.rt:43:5
 array-write-path-2 : tie.Need-array-write-path-2
 array-write-path-2 c = search needs
 
--- src/reading.rt:44:24
 element-copy-out-path-3 : tie.Need-element-copy-out-path-3
 element-copy-out-path-3 c = search needs
 
--- src/reading.rt:44:10
 add-path-2 : tie.Need-add-path-2
 add-path-2 c = search needs
 
--- src/reading.rt:44:5
 array-write-path-3 : tie.Need-array-write-path-3
 array-write-path-3 c = search needs
 
--- src/reading.rt:45:24
 element-copy-out-path-4 : tie.Need-element-copy-out-path-4
 element-copy-out-path-4 c = search needs
 
--- src/reading.rt:45:10
 add-path-3 : tie.Need-add-path-3
 add-path-3 c = search needs
 
--- src/reading.rt:45:5
 array-write-path-4 : tie.Need-array-write-path-4
 array-write-path-4 c = search needs
 
--- src/reading.rt:46:15
 add-end : tie.Need-add-end
 add-end c = search needs
 
--- src/reading.rt:47:15
 array-share-prefix-path : tie.Need-array-share-prefix-path
 array-share-prefix-path c = simp length-set (search needs)
 
--- src/reading.rt:47:15
 slice-aggregate-read-path : tie.Need-slice-aggregate-read-path
 slice-aggregate-read-path c = front _ _ (simp length-set (search needs))
 
--- src/reading.rt:47:5
 read-path-requires : tie.Need-read-path-requires
 read-path-requires c κs = search needs
 
--- src/reading.rt:34:1
 same-length : tie.Need-same-length
 same-length c = search needs
 
--- src/reading.rt:34:1
 returns-2 : tie.Need-returns-2
 returns-2 c = search needs
 
