@@ -4,3 +4,4 @@ pub mod Moves
 mod Several
 pub mod Told
 pub mod Way
+pub mod Theorems

@@ -3,3 +3,4 @@ pub mod Wording
 pub mod Whole
 pub mod Ready
 pub mod Several
+pub mod Theorems
