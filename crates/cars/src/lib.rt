@@ -1,6 +1,8 @@
 // The cars that go round the ring, the two rule books, and the test that a car names nothing that is missing (13).
 ghost use mathlib.Core.Path.{_≡_};
-ghost use Rattle.cars.specs.Cars.{multiring, isNode, names, noticeNames, carNames};
+ghost use mathlib.Core.Bool.{false, not, _&&_, _||_};
+ghost use Prim.Native.Nat.{ℕ};
+ghost use Rattle.cars.specs.Cars.{multiring, isNode, names, carNames};
 
 // What a request carries: its lock and its source node.
 pub struct Tag {
@@ -53,28 +55,69 @@ fn names(nodes: u8, locks: u8, lock: u8, source: u8) -> bool
     false
 }
 
-// Whether a notice is allowed, and names a lock and a node that are there.
-fn notice_names(rules: u8, nodes: u8, locks: u8, notice: Notice) -> bool
-    ensures { λ r. ⌜ r ≡ noticeNames rules nodes locks notice ⌝ }
-{
-    if multiring(rules) {
-        return names(nodes, locks, notice.lock, notice.source);
-    }
-    false
+// What a car carries: nothing, or a lock and a source, as a notice (gotp, didv) or as a request.
+struct Carried {
+    nothing: bool,
+    notice: bool,
+    lock: u8,
+    source: u8,
 }
 
-// Whether a car names no missing node or lock, and is no gotp or didv under ring rules.
+// A lock and a source.
+fn carrying(notice: bool, lock: u8, source: u8) -> Carried
+    ensures { λ r. ⌜ r ≡ record { nothing = false; notice = notice; lock = lock; source = source } ⌝ }
+{
+    Carried {
+        nothing: false,
+        notice: notice,
+        lock: lock,
+        source: source,
+    }
+}
+
+// What 13 asks of a car is asked of what it carries.
+fn carried_by(car: Car) -> Carried
+    ensures { λ r. ⌜ ((rules nodes locks : ℕ) → carNames rules nodes locks car ≡ (r .nothing || ((not (r .notice) || multiring rules) && names nodes locks (r .lock) (r .source)))) ⌝ }
+{
+    let nothing = Carried {
+        nothing: true,
+        notice: false,
+        lock: 0,
+        source: 0,
+    };
+    match car {
+        Car::Idle => nothing,
+        Car::Token => nothing,
+        Car::Null => nothing,
+        Car::Reqp(tag) => carrying(false, tag.lock, tag.source),
+        Car::Failp(tag) => carrying(false, tag.lock, tag.source),
+        Car::Dov(tag) => carrying(false, tag.lock, tag.source),
+        Car::Gotp(notice) => carrying(true, notice.lock, notice.source),
+        Car::Didv(notice) => carrying(true, notice.lock, notice.source),
+    }
+}
+
+// Whether the rules have such a car: a notice under multiring rules only.
+fn has_such(rules: u8, notice: bool) -> bool
+    ensures { λ r. ⌜ r ≡ (not notice || multiring rules) ⌝ }
+{
+    if notice {
+        return multiring(rules);
+    }
+    true
+}
+
+// Whether a car names no missing node or lock, and is no gotp or didv under ring rules. By what it carries and not by its case,
+// since 13 asks it of every car of a state at every action.
 pub fn car_names(rules: u8, nodes: u8, locks: u8, car: Car) -> bool
     ensures { λ r. ⌜ r ≡ carNames rules nodes locks car ⌝ }
 {
-    match car {
-        Car::Idle => true,
-        Car::Token => true,
-        Car::Null => true,
-        Car::Reqp(tag) => names(nodes, locks, tag.lock, tag.source),
-        Car::Failp(tag) => names(nodes, locks, tag.lock, tag.source),
-        Car::Dov(tag) => names(nodes, locks, tag.lock, tag.source),
-        Car::Gotp(notice) => notice_names(rules, nodes, locks, notice),
-        Car::Didv(notice) => notice_names(rules, nodes, locks, notice),
+    let carried = carried_by(car);
+    if carried.nothing {
+        return true;
     }
+    if has_such(rules, carried.notice) {
+        return names(nodes, locks, carried.lock, carried.source);
+    }
+    false
 }

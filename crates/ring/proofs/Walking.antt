@@ -8,6 +8,7 @@ use native.Mathlib.Omega.{arith}
 use lib.ListN.{getD, set}
 use borrow.Author.Tests.{eq-eqb, ne-eqb}
 use Rattle.lists.specs.Loops.{iterate, inOrder}
+use Rattle.lists.specs.Refusal.{refusedIf}
 use Rattle.lists.proofs.Laws.{some-none, some-more, inOrder-none, inOrder-more, iterate-none, iterate-more}
 use Rattle.cars.specs.declared.Car.{Car}
 use Rattle.plan.specs.Plan.{valueAt, inRange}
@@ -18,11 +19,14 @@ use Rattle.usernode.specs.Node.{wantsTrain}
 use Rattle.usernode.specs.Astray.{astray}
 use Rattle.junction.specs.declared.Junction.{Junction}
 use Rattle.junction.specs.Turn.{junctionTurn}
+use Rattle.zeronode.specs.declared.ZeroNode.{ZeroNode}
+use Rattle.zeronode.specs.Turn.{zeroTurn, overflows}
 use Rattle.ring.specs.declared.State.{State}
+use Rattle.ring.specs.declared.StepAnswer.the-variants.{Done}
 use Rattle.ring.specs.declared.Happening.{Happening}
-use Rattle.ring.specs.declared.Walk.{Walk}
 use Rattle.ring.specs.State.{restNode}
-use Rattle.ring.specs.Walk.{nodeHere, junctionHere, turnHere, onNode, wanted, intoSubring, outOfSubring, onJunction, onPosition, setOut, walk}
+use Rattle.ring.specs.Step.{stepTold, stepNumber, stepAnswerNumber, nextState, done, moving}
+use Rattle.ring.specs.Walk.{Walk, nodeHere, junctionHere, turnHere, onNode, wanted, intoSubring, outOfSubring, onJunction, onPosition, setOut, walk}
 
 -- a walk of its parts
 abbrev pub walkOf : ℕ → ℕ → Car → Bool → List Node → List Happening → List Junction → Walk
@@ -149,3 +153,13 @@ around-junction state place before inside after k wants h l v i d e =
 pub walked : (state : State) (place : ℕ) (after : Walk) → Around state place after → state .plan .positions ≤ place → after ≡ walk state
 unfolding walk
 walked state place after h d = h .so-far ∙ ap (λ (n : ℕ). inOrder (onPosition state) n (setOut state)) (omega (arith, h .below))
+
+-- a step that neither 14 nor 15 refuses: the zero node has had its turn too
+pub moved : (state : State) (after : Walk) (zeroth : ZeroNode)
+    → after ≡ walk state
+    → overflows (state .zeroth) (after .last) ≡ false
+    → after .astray ≡ false
+    → zeroth ≡ zeroTurn (state .zeroth) (after .last)
+    → stepTold (record { answer = Done; state = record { plan = state .plan; zeroth = zeroth; nodes = after .nodes; junctions = after .junctions }; events = after .events }) ≡ moving state
+unfolding moving stepTold stepNumber refusedIf done nextState stepAnswerNumber
+moved state after zeroth w o a z = simp (z, ← w, o, a)

@@ -2,9 +2,11 @@
 -- the senders in travelling order: position by position, a junction being its subring car, its nodes, its main car.
 use Prim.Native.Nat.{ℕ, _+_}
 use mathlib.Core.Bool.{Bool, cond, false, _||_}
+use mathlib.Core.List.{List}
 use lib.Dec.{eqb}
 use lib.ListN.{getD, set, replicate}
 use Rattle.lists.specs.Loops.{some, iterate, inOrder}
+use Rattle.cars.specs.declared.Car.{Car}
 use Rattle.plan.specs.Plan.{nodePlaces, valueAt}
 use Rattle.usernode.specs.declared.Node.{Node}
 use Rattle.turns.specs.declared.Turn.{Turn}
@@ -16,8 +18,18 @@ use Rattle.junction.specs.declared.Junction.{Junction}
 use Rattle.junction.specs.Turn.{junctionTurn}
 use Rattle.ring.specs.declared.State.{State}
 use Rattle.ring.specs.declared.Happening.{Happening}
-use Rattle.ring.specs.declared.Walk.{Walk}
 use Rattle.ring.specs.State.{restNode, restJunction}
+
+-- the walk: the nodes passed, the junctions turned, the car sent by the last sender met, whether an own car met a node that was not
+-- ready for it; and nodes, events and junctions as the step leaves them
+pub record Walk : Type 0 where
+  pub passed : ℕ
+  pub turned : ℕ
+  pub last : Car
+  pub astray : Bool
+  pub nodes : List Node
+  pub events : List Happening
+  pub junctions : List Junction
 
 -- no event at a node
 unfoldable pub quiet : Happening

@@ -3,7 +3,6 @@ ghost use mathlib.Core.Path.{_≡_};
 ghost use Rattle.ring.specs.State.{planAnswerNumber};
 ghost use Rattle.ring.specs.Step.{stepAnswerNumber};
 use acts::ActionAnswer;
-use cars::Car;
 use junction::Junction;
 use plan::JUNCTIONS;
 use plan::NODES;
@@ -71,18 +70,6 @@ pub struct Advanced {
     pub state: State,
     pub events: [Happening; NODES],
     pub done: u16,
-}
-
-// The walk through the senders: the nodes passed, the junctions turned, the car sent by the last sender met, whether an own
-// car met a node that was not ready for it; and nodes, events and junctions as the step leaves them.
-pub struct Walk {
-    pub passed: u8,
-    pub turned: u8,
-    pub last: Car,
-    pub astray: bool,
-    pub nodes: [Node; NODES],
-    pub events: [Happening; NODES],
-    pub junctions: [Junction; JUNCTIONS],
 }
 
 // The number of an answer to a start in 01; 0: accepted.

@@ -1,11 +1,13 @@
-// The walk through the senders in travelling order: every node and junction acts on the cars sent before the step.
+// The walk through the senders in travelling order: every node and junction acts on the cars sent before the step. And what 14
+// and 15 say of it.
 ghost use mathlib.Core.Path.{_≡_};
 ghost use mathlib.Core.Bool.{true, _||_};
 ghost use Rattle.plan.specs.Plan.{inRange};
-ghost use Rattle.ring.specs.Walk.{walk};
+ghost use Rattle.ring.specs.Step.{stepTold, moving};
 use crate::Happening;
 use crate::State;
-use crate::Walk;
+use crate::StepAnswer;
+use crate::Stepped;
 use plan::NODES;
 use turns::Event;
 
@@ -20,10 +22,11 @@ fn either(a: bool, b: bool) -> bool
 }
 
 impl State {
-    // Position by position; a junction is its subring car, its nodes, its main car.
-    pub(crate) fn walk(self) -> Walk
+    // A step of a state that 13 does not refuse: the plan in range is what the walk needs of it. Position by position; a junction is
+    // its subring car, its nodes, its main car; then the zero node. In one function, so that the arrays are handed on less often.
+    pub(crate) fn moving(self) -> Stepped
         requires { ⌜ inRange (self .plan) ≡ true ⌝ }
-        ensures { λ r. ⌜ r ≡ walk self ⌝ }
+        ensures { λ r. ⌜ stepTold r ≡ moving self ⌝ }
     {
         let plan = self.plan;
         let zeroth = self.zeroth;
@@ -78,14 +81,22 @@ impl State {
                 place += 1;
             }
         }
-        Walk {
-            passed: passed,
-            turned: turned,
-            last: last,
-            astray: astray,
+        if zeroth.overflows(last) {
+            return self.refused(StepAnswer::QueueFull);
+        }
+        if astray {
+            return self.refused(StepAnswer::Astray);
+        }
+        let next = State {
+            plan: plan,
+            zeroth: zeroth.turn(last),
             nodes: nodes,
-            events: events,
             junctions: junctions,
+        };
+        Stepped {
+            answer: StepAnswer::Done,
+            state: next,
+            events: events,
         }
     }
 }

@@ -1,8 +1,6 @@
 // The step, with its refusals: 13, 14, 15.
 ghost use mathlib.Core.Path.{_≡_};
-ghost use mathlib.Core.Bool.{true};
-ghost use Rattle.plan.specs.Plan.{inRange};
-ghost use Rattle.ring.specs.Step.{stepTold, moving, stepping, stepAnswerNumber, refused};
+ghost use Rattle.ring.specs.Step.{stepTold, stepping, stepAnswerNumber, refused};
 use crate::Happening;
 use crate::State;
 use crate::StepAnswer;
@@ -12,7 +10,7 @@ use turns::Event;
 
 impl State {
     // The state as it was, with no events.
-    fn refused(self, answer: StepAnswer) -> Stepped
+    pub(crate) fn refused(self, answer: StepAnswer) -> Stepped
         ensures { λ r. ⌜ stepTold r ≡ refused (stepAnswerNumber answer) self ⌝ }
     {
         let events = [Happening {
@@ -21,37 +19,6 @@ impl State {
         Stepped {
             answer: answer,
             state: self,
-            events: events,
-        }
-    }
-
-    // A step of a state that 13 does not refuse: the plan in range is what the walk needs of it.
-    pub(crate) fn moving(self) -> Stepped
-        requires { ⌜ inRange (self .plan) ≡ true ⌝ }
-        ensures { λ r. ⌜ stepTold r ≡ moving self ⌝ }
-    {
-        let plan = self.plan;
-        let zeroth = self.zeroth;
-        let walk = self.walk();
-        let arrival = walk.last;
-        if zeroth.overflows(arrival) {
-            return self.refused(StepAnswer::QueueFull);
-        }
-        if walk.astray {
-            return self.refused(StepAnswer::Astray);
-        }
-        let nodes = walk.nodes;
-        let junctions = walk.junctions;
-        let events = walk.events;
-        let next = State {
-            plan: plan,
-            zeroth: zeroth.turn(arrival),
-            nodes: nodes,
-            junctions: junctions,
-        };
-        Stepped {
-            answer: StepAnswer::Done,
-            state: next,
             events: events,
         }
     }

@@ -20,10 +20,9 @@ use Rattle.turns.specs.declared.Event.the-variants.{Nothing}
 use Rattle.turns.specs.Turn.{becomes, apply, eventOf, turn}
 use Rattle.ring.specs.declared.State.{State}
 use Rattle.ring.specs.declared.Happening.{Happening}
-use Rattle.ring.specs.declared.Walk.{Walk}
 use Rattle.ring.specs.State.{restNode}
 use Rattle.ring.specs.Sound.{sound}
-use Rattle.ring.specs.Walk.{quiet, nodeHere, turnHere, onNode, intoSubring, outOfSubring, onJunction, onPosition, setOut, walk}
+use Rattle.ring.specs.Walk.{Walk, quiet, nodeHere, turnHere, onNode, intoSubring, outOfSubring, onJunction, onPosition, setOut, walk}
 use Rattle.ring.specs.Step.{StepTold, nextState, stepNumber, refused, done, moving, stepping}
 
 -- a node that holds and is letting go what it held and was letting go before

@@ -9,9 +9,8 @@ use Rattle.cars.specs.declared.Car.{Car}
 use Rattle.plan.specs.Plan.{inRange, nodeCount, junctionCount}
 use Rattle.zeronode.specs.Turn.{zeroTurn, overflows}
 use Rattle.ring.specs.declared.State.{State}
-use Rattle.ring.specs.declared.Walk.{Walk}
 use Rattle.ring.specs.Sound.{sound}
-use Rattle.ring.specs.Walk.{walk}
+use Rattle.ring.specs.Walk.{Walk, walk}
 use Rattle.ring.specs.Step.{StepTold, nextState, stepNumber, refused, done, moving, stepping}
 use Rattle.ring.proofs.Laws.{sound-plan}
 use Rattle.unused.specs.Unused.{ComesBack, SameZero, Agree}

@@ -19,8 +19,7 @@ use Rattle.turns.specs.Turn.{turn}
 use Rattle.junction.specs.declared.Junction.{Junction}
 use Rattle.junction.specs.Turn.{junctionTurn}
 use Rattle.ring.specs.declared.State.{State}
-use Rattle.ring.specs.declared.Walk.{Walk}
-use Rattle.ring.specs.Walk.{nodeHere, junctionHere, turnHere, onNode, wanted, intoSubring, outOfSubring, onJunction, onPosition, setOut, walk}
+use Rattle.ring.specs.Walk.{Walk, nodeHere, junctionHere, turnHere, onNode, wanted, intoSubring, outOfSubring, onJunction, onPosition, setOut, walk}
 use Rattle.ring.proofs.Walking.{walkOf}
 use Rattle.unused.specs.Unused.{Agree}
 use Rattle.unused.proofs.Lists.{same-set}

@@ -20,9 +20,8 @@ use Rattle.junction.specs.declared.Junction.{Junction}
 use Rattle.junction.specs.Turn.{junctionTurn}
 use Rattle.ring.specs.declared.State.{State}
 use Rattle.ring.specs.declared.Happening.{Happening}
-use Rattle.ring.specs.declared.Walk.{Walk}
 use Rattle.ring.specs.State.{restNode, restJunction}
-use Rattle.ring.specs.Walk.{quiet, nodeHere, junctionHere, turnHere, onNode, wanted, intoSubring, outOfSubring}
+use Rattle.ring.specs.Walk.{Walk, quiet, nodeHere, junctionHere, turnHere, onNode, wanted, intoSubring, outOfSubring}
 use Rattle.onelock.proofs.Line.Ring.{Line, end, user, junction, size, out, wanting, stepLine}
 use Rattle.onelock.proofs.Line.Meets.{Meets}
 use Rattle.onelock.proofs.State.AsLine.{usersFrom, strays}

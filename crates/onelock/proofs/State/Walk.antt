@@ -18,10 +18,9 @@ use Rattle.usernode.specs.declared.Node.{Node}
 use Rattle.turns.specs.Turn.{turn}
 use Rattle.junction.specs.declared.Junction.{Junction}
 use Rattle.ring.specs.declared.State.{State}
-use Rattle.ring.specs.declared.Walk.{Walk}
 use Rattle.ring.specs.State.{nodeOf}
 use Rattle.ring.specs.Step.{nextState}
-use Rattle.ring.specs.Walk.{quiet, onJunction, onPosition, setOut, walk}
+use Rattle.ring.specs.Walk.{Walk, quiet, onJunction, onPosition, setOut, walk}
 use Rattle.onelock.proofs.Line.Ring.{Line, size, out, stepLine}
 use Rattle.onelock.proofs.Line.Meets.{Meets, meets-all}
 use Rattle.onelock.proofs.State.AsLine.{positionAt, positionsFrom, lineOf, strays, Formed}

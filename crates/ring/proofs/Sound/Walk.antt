@@ -20,10 +20,9 @@ use Rattle.usernode.specs.Sound.{nodeSound}
 use Rattle.junction.specs.declared.Junction.{Junction}
 use Rattle.junction.specs.Sound.{junctionSound}
 use Rattle.ring.specs.declared.State.{State}
-use Rattle.ring.specs.declared.Walk.{Walk}
 use Rattle.ring.specs.State.{restNode, restJunction}
 use Rattle.ring.specs.Sound.{zeroPasses, nodePasses, junctionPasses, sound}
-use Rattle.ring.specs.Walk.{nodeHere, junctionHere, turnHere, onNode, wanted, intoSubring, outOfSubring, onJunction, onPosition, setOut, walk}
+use Rattle.ring.specs.Walk.{Walk, nodeHere, junctionHere, turnHere, onNode, wanted, intoSubring, outOfSubring, onJunction, onPosition, setOut, walk}
 use Rattle.ring.specs.Step.{nextState}
 use Rattle.ring.proofs.Laws.{passed, passes, sound-plan, node-passes, junction-passes}
 use Rattle.ring.proofs.Sound.Node.{sound-car, turn-sound}

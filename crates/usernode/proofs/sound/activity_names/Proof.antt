@@ -1,55 +1,19 @@
--- `usernode::sound::activity_names` meets its contract. On each way to a return, the tests and calls on the way choose the case of the definition.
-use Rattle.usernode.specs.Sound.{activityNames}
+-- `usernode::sound::activity_names` meets its contract: on each way to a return, the test on the way gives a part of what `lock_of` promises.
 use borrow.Author.Needs.{needs}
 use Rattle.usernode.proofs.sound.activity_names.Statement.{statement}
 use Rattle.usernode.proofs.sound.activity_names.Tie as tie
 
-enum-told : tie.Need-enum-told
-enum-told c = search needs
+lock-of-requires : tie.Need-lock-of-requires
+lock-of-requires c κs = search needs
 
-enum-known-activity : tie.Need-enum-known-activity
-enum-known-activity c = search needs
-
-enum-known-activity-2 : tie.Need-enum-known-activity-2
-enum-known-activity-2 c = search needs
-
-enum-known-activity-3 : tie.Need-enum-known-activity-3
-enum-known-activity-3 c = search needs
-
-enum-known-activity-4 : tie.Need-enum-known-activity-4
-enum-known-activity-4 c = search needs
+is-idle-requires : tie.Need-is-idle-requires
+is-idle-requires c κs = search needs
 
 returns : tie.Need-returns
-unfolding activityNames
-returns c = simp (c .enum-told .given .1)
+returns c = simp (c .before .before .lock-of .ensures, ← c .before .is-idle .ensures, c .if1 .taken)
 
 returns-2 : tie.Need-returns-2
-unfolding activityNames
-returns-2 c = simp (c .before .activity .given .1)
-
-returns-3 : tie.Need-returns-3
-unfolding activityNames
-returns-3 c = simp (c .before .activity2 .given .1)
-
-returns-4 : tie.Need-returns-4
-unfolding activityNames
-returns-4 c = simp (c .before .activity3 .given .1)
-
-returns-5 : tie.Need-returns-5
-unfolding activityNames
-returns-5 c = simp (c .before .activity4 .given .1)
+returns-2 c = simp (c .before .before .lock-of .ensures, ← c .before .is-idle .ensures, c .if1 .left)
 
 pub activity-names-spec : {M : Type 1} → statement M
-activity-names-spec =
-    tie.close
-    (tie.spec
-    enum-told
-    enum-known-activity
-    enum-known-activity-2
-    enum-known-activity-3
-    enum-known-activity-4
-    returns
-    returns-2
-    returns-3
-    returns-4
-    returns-5)
+activity-names-spec = tie.close (tie.spec lock-of-requires is-idle-requires returns returns-2)
