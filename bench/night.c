@@ -1,7 +1,8 @@
 /* The night program in plain C, the yardstick for speed. It reads a night
    file on standard input and writes the run's lines on standard output. Rules
-   and names are those of the build paper (01). Refusals 13 to 15 are not
-   tested: from the start state they never occur. */
+   and names are those of the build paper (01), with busy steps as request 1
+   (02) has them. Refusals 13 to 15 are not tested: from the start state they
+   never occur. */
 
 #include <stdbool.h>
 #include <stdint.h>
@@ -269,13 +270,13 @@ static void zero_turn(struct zero_node *zero, struct car car)
     }
 }
 
-/* The locks that some node holds. */
-static uint64_t all_held(const struct run *run)
+/* The locks that some node holds or is letting go. */
+static uint64_t all_had(const struct run *run)
 {
-    uint64_t held = 0;
+    uint64_t had = 0;
     for (int number = 1; number <= run->plan.users; number++)
-        held |= run->nodes[number].held;
-    return held;
+        had |= run->nodes[number].held | run->nodes[number].letting_go;
+    return had;
 }
 
 static void step(struct run *run)
@@ -293,8 +294,8 @@ static void step(struct run *run)
         }
     }
     zero_turn(&run->zero, car);
-    for (uint64_t held = all_held(run); held != 0; held &= held - 1)
-        run->busy[lowest(held)]++;
+    for (uint64_t had = all_had(run); had != 0; had &= had - 1)
+        run->busy[lowest(had)]++;
 }
 
 /* Actions */

@@ -1,13 +1,17 @@
 -- Demand 3 of a night run: the sentences of specs/Corollaries, proved of every accepted file and every ceiling.
-use Prim.Native.Nat.{ℕ, _-_}
+use Prim.Native.Nat.{ℕ, _-_, _^_, min}
 use mathlib.Core.Path.{_≡_, refl, _∙_, ap, sym, subst}
 use mathlib.Core.Bool.{true}
 use mathlib.Core.List.{List, [], _∷_, _++_}
+use native.Mathlib.Omega.{arith}
+use lib.ListN.{getD, length-replicate}
 use Rattle.plan.specs.Plan.{nodePlaces, inRange}
 use Rattle.ring.specs.declared.State.{State}
 use Rattle.ring.specs.State.{startOf, startState}
 use Rattle.ring.specs.Actions.{acting}
 use Rattle.ring.specs.Step.{stepping}
+use Rattle.tally.specs.Tally.{emptyTally, noCounts}
+use Rattle.tally.proofs.Small.{none-busy}
 use Rattle.nightfile.specs.File.{fileNumber, planOf, schedulePart}
 use Rattle.nightfile.proofs.Laws.{accepted, plan-shown}
 use Rattle.course.specs.Standing.{nodesOf, beginning, reachedNext, actionItem}
@@ -18,12 +22,14 @@ use Rattle.onelock.specs.OneLock.{Item, step, act, afterItem, afterAll, reached
 use Rattle.onelock.proofs.Run.Parts.{reached-more}
 use Rattle.onelock.proofs.Theorems.{never-stuck}
 use Rattle.nightlock.specs.NightLock.{planIn, itemsIn, at-first, by-step, by-action}
+use Rattle.nightlock.specs.Busy.{someHas, fileSteps}
 use Rattle.nightlock.specs.Corollaries.{EveryStateIsReached, EveryLineStands, NoStepRefused, TheLinesAreTheHistory}
 use Rattle.nightlock.proofs.Deeds.{apart, tells-none}
+use Rattle.nightlock.proofs.Counting.{none-after}
 use Rattle.nightlock.proofs.Courses.{At, at-same, standing, Goes, none, goes-same, goes-telling, goes-items}
 
 -- the plan of an accepted file is in range
-plan-in-range : (file : List ℕ) → fileNumber file ≡ 0 → inRange (planIn file) ≡ true
+pub plan-in-range : (file : List ℕ) → fileNumber file ≡ 0 → inRange (planIn file) ≡ true
 unfolding planIn
 plan-in-range file e = ap (λ (body : List ℕ). inRange (planOf body)) (plan-shown file e) ∙ accepted file e .in-range
 
@@ -33,11 +39,20 @@ unfolding beginning
 begins-items file e = record { not-over = refl; at-items = rw e }
 
 begins : (file : List ℕ) → fileNumber file ≡ 0 → At file [] (itemsIn file) (beginning file)
-unfolding beginning reached afterAll stepsAmong startState planIn
-begins file e = record { split = refl; state = rw (plan-in-range file e); steps = refl }
+unfolding beginning reached afterAll stepsAmong startState planIn emptyTally noCounts fileSteps
+begins file e =
+    record {
+      split = refl;
+      state = rw (plan-in-range file e);
+      steps = refl;
+      counted = record {
+        places = length-replicate {A = ℕ} 64 0;
+        busy = λ lock below. let none : getD (emptyTally .busy) lock 0 ≡ 0 = omega (arith, none-busy lock) in none ∙ ap (λ (n : ℕ). min n (2 ^ 64 - 1)) (sym (none-after (someHas lock) (itemsIn file) (startOf (planIn file))));
+      };
+    }
 
 -- so much is known of its course: it has nothing to tell at first, and goes through its items
-file-goes : (ceiling : ℕ) (file : List ℕ) → fileNumber file ≡ 0 → Goes file none [] (fileCourse ceiling file)
+pub file-goes : (ceiling : ℕ) (file : List ℕ) → fileNumber file ≡ 0 → Goes file none [] (fileCourse ceiling file)
 unfolding fileCourse working tellingAll onSteps onItems manySteps beginning itemsIn apart
 file-goes ceiling file e =
     let r = plan-in-range file e in

@@ -1,27 +1,36 @@
--- What is known of a course of a run that stands where a first part of its file's items has brought it: every line stands at such a place, and
--- what the lines report of a lock is the history of what the items do to it.
-use Prim.Native.Nat.{ℕ, zero, suc, _+_, _-_}
-use mathlib.Core.Path.{_≡_, refl, _∙_, ap, sym}
+-- What is known of a course of a run that stands where a first part of its file's items has brought it: every line stands at such a place, what the
+-- lines report of a lock is the history of what the items do to it, and the busy steps are those after which some node has the lock.
+use Prim.Native.Nat.{ℕ, zero, suc, _+_, _-_, _^_, _≤_, _<_, min}
+use mathlib.Core.Path.{_≡_, refl, _∙_, ap, ap₂, sym, subst}
 use mathlib.Core.Bool.{Bool, true, false, cond, true≢false}
 use mathlib.Core.List.{List, [], _∷_, _++_, append-nil, append-assoc}
 use native.Mathlib.Numerals.{add-one}
 use native.Mathlib.Omega.{arith}
 use lib.Dec.{ltb}
+use lib.ListN.{getD, length}
 use lib.Seq.{append-snoc}
+use Rattle.lists.specs.Loops.{some}
+use Rattle.usernode.specs.Node.{had}
 use Rattle.plan.specs.declared.Plan.{Plan}
 use Rattle.plan.specs.Plan.{inRange, nodeCount}
+use Rattle.plan.proofs.Laws.{in-range}
 use Rattle.acts.specs.declared.Action.{Action}
 use Rattle.ring.specs.declared.State.{State}
 use Rattle.ring.specs.declared.Happening.{Happening}
+use Rattle.ring.specs.State.{restNode, startOf}
+use Rattle.ring.proofs.Laws.{nodes-most as count-most, stepping-plan}
 use Rattle.ring.specs.Actions.{acting}
 use Rattle.ring.specs.Step.{stepping}
+use Rattle.tally.specs.Tally.{busy}
+use Rattle.tally.proofs.Exact.{step-places, step-exact}
 use Rattle.items.specs.declared.Item.{Item as FileItem}
 use Rattle.items.specs.declared.Item.the-variants.{Steps, Act}
 use Rattle.course.specs.declared.Reached.{Reached}
 use Rattle.course.specs.declared.Run.{Run}
 use Rattle.wording.specs.declared.Line.{Line}
+use Rattle.course.specs.declared.Phase.{Phase}
 use Rattle.course.specs.declared.Phase.the-variants.{Ended, Cut}
-use Rattle.course.specs.Standing.{nodesOf, reachedNext, oneStep, past, stepsItem, actionItem, atEnd, allSaid}
+use Rattle.course.specs.Standing.{nodesOf, locksOf, reachedNext, oneStep, past, stepsItem, actionItem, atEnd, allSaid}
 use Rattle.course.specs.Wording.{eventHere, isEvent, isCut, eventLine, actionLine, lockLine, lastLine}
 use Rattle.course.specs.Whole.{Said, Course, says, silence, telling, tellingAll, closing, closingAll, manySteps, items}
 use Rattle.course.proofs.Moves.{withNext, step-nodes}
@@ -31,13 +40,26 @@ use Rattle.onelock.proofs.Run.Reached.{plan-reached}
 use Rattle.onelock.proofs.Run.Parts.{reached-more, among-more, noted-more}
 use Rattle.onelock.proofs.Theorems.{one-deed-at-a-time}
 use Rattle.nightlock.specs.NightLock.{planIn, manySteps as itemSteps, asItems, itemsIn, Stands, EachSaid, reports, reported}
+use Rattle.nightlock.specs.Busy.{someHas, stepsAfterWhich, fileSteps, recounted}
+use Rattle.nightlock.proofs.Counting.{one-after}
+use Rattle.nightlock.proofs.Recounted.{lock-recounted, event-recounted, action-recounted, last-recounted}
 use Rattle.nightlock.proofs.Deeds.{apart, apart-more, apart-one, tells, tells-all, event-reports, no-event, action-reports, lock-reports, last-reports}
+
+-- the busy steps of a lock after so many steps of a file, as they are counted: a count of 64 bits stays at its top
+abbrev pub busySteps : List ℕ → ℕ → ℕ → ℕ
+busySteps file steps lock = min (fileSteps someHas file steps lock) (2 ^ 64 - 1)
+
+-- what is reached has counted them
+pub record Counted (file : List ℕ) (reached : Reached) : Type 0 where
+  pub places : length (reached .tally .busy) ≡ 64
+  pub busy : (lock : ℕ) → lock < planIn file .locks → getD (reached .tally .busy) lock 0 ≡ busySteps file (reached .steps) lock
 
 -- a run that has done these items, with those left
 pub record At (file : List ℕ) (done left : List Item) (run : Run) : Type 0 where
   pub split : itemsIn file ≡ done ++ left
   pub state : run .reached .state ≡ reached (planIn file) done
   pub steps : run .reached .steps ≡ stepsAmong done
+  pub counted : Counted file (run .reached)
 
 -- so it stands, as the statements say it
 abbrev pub standing : {file : List ℕ} {done left : List Item} {run : Run} → At file done left run → Stands file run
@@ -45,11 +67,21 @@ standing {done} {left} a = record { done = done; left = left; split = a .split; 
 
 -- what is reached is all that this looks at
 pub at-same : {file : List ℕ} {done left : List Item} {run : Run} (other : Run) → other .reached ≡ run .reached → At file done left run → At file done left other
-at-same other e a = record { split = a .split; state = ap (λ (x : Reached). x .state) e ∙ a .state; steps = ap (λ (x : Reached). x .steps) e ∙ a .steps }
+at-same {file} other e a =
+    record {
+      split = a .split;
+      state = ap (λ (x : Reached). x .state) e ∙ a .state;
+      steps = ap (λ (x : Reached). x .steps) e ∙ a .steps;
+      counted = subst (Counted file) (sym e) (a .counted);
+    }
 
 -- a line that is said where the run so stands
 abbrev pub BothStand : List ℕ → Said → Type 0
 BothStand file said = Stands file (said .before) × Stands file (said .after)
+
+-- a line says the busy steps that are counted so, if it says any
+abbrev pub SaysBusy : List ℕ → Line → Type 0
+SaysBusy file line = recounted (busySteps file) line ≡ line
 
 -- a run at the end that has done some items more, all of them where it is not cut
 pub record Onward (file : List ℕ) (done : List Item) (end : Run) : Type 0 where
@@ -64,6 +96,7 @@ pub record Onward (file : List ℕ) (done : List Item) (end : Run) : Type 0 wher
 pub record Goes (file : List ℕ) (toTell : ℕ → List Moment) (done : List Item) (c : Course) : Type 0 where
   pub way : Onward file done (c .end)
   pub each : EachSaid (BothStand file) (c .lines)
+  pub busy : EachSaid (λ said. SaysBusy file (said .line)) (c .lines)
   pub lines : (lock : ℕ)
       → reported (planIn file .rules) lock (c .lines) ≡ toTell lock ++ historyFrom lock (way .more) (stepsAmong done) (reached (planIn file) done)
 
@@ -79,17 +112,29 @@ itemMoment file done item lock = noted (timeOf item (stepsAmong done)) (deedsOf 
 abbrev pub none : ℕ → List Moment
 none lock = []
 
+-- who is counted as busy after a step: some node has the lock then
+abbrev busyAfter : State → ℕ → Bool
+busyAfter state lock = busy (stepping state .state .nodes) (min (nodeCount (state .plan)) 64) lock
+
+busy-after : (state : State) (lock : ℕ) → busyAfter state lock ≡ someHas lock (stepping state .state)
+unfolding busy someHas
+busy-after state lock =
+    let count : min (nodeCount (state .plan)) 64 ≡ nodeCount (stepping state .state .plan) =
+    omega (arith, count-most (state .plan), ap nodeCount (stepping-plan state)) in
+    ap (some (λ place. had (getD (stepping state .state .nodes) place restNode) lock)) count
+
 module _ {file : List ℕ} where
   -- a line more
   goes-says : (first toTell : ℕ → List Moment) (line : Line) (before after : Run) {done : List Item} {c : Course} → Stands file before → Stands file after
-      → ((lock : ℕ) → reports (planIn file .rules) lock line ≡ first lock) → Goes file toTell done c
+      → ((lock : ℕ) → reports (planIn file .rules) lock line ≡ first lock) → SaysBusy file line → Goes file toTell done c
       → Goes file (λ lock. first lock ++ toTell lock) done (says line before after c)
   unfolding says EachSaid reported
-  goes-says first toTell line before after {done} {c} b a e g =
+  goes-says first toTell line before after {done} {c} b a e same g =
       let rules = planIn file .rules in
       record {
         way = g .way;
         each = ((b, a), g .each);
+        busy = (same, g .busy);
         lines = λ lock. ap (λ (now : List Moment). now ++ reported rules lock (c .lines)) (e lock)
             ∙ ap (λ (rest : List Moment). first lock ++ rest) (g .lines lock) ∙ sym (append-assoc (first lock) (toTell lock) _);
       }
@@ -101,6 +146,7 @@ module _ {file : List ℕ} where
       record {
         way = g .way;
         each = g .each;
+        busy = g .busy;
         lines = λ lock. g .lines lock
             ∙ ap (λ (first : List Moment). first ++ historyFrom lock (g .way .more) (stepsAmong done) (reached (planIn file) done)) (e lock);
       }
@@ -120,6 +166,7 @@ module _ {file : List ℕ} where
           whole = w .whole;
         };
         each = g .each;
+        busy = g .busy;
         lines = λ lock. g .lines lock
             ∙ ap (λ (n : ℕ). itemMoment file done item lock ++ historyFrom lock (w .more) n (reached (planIn file) (done ++ (item ∷ [])))) (among-more done item)
             ∙ ap (λ (s : State). itemMoment file done item lock ++ historyFrom lock (w .more) (doneAfter item (stepsAmong done)) s)
@@ -134,18 +181,22 @@ module _ {file : List ℕ} where
       record {
         way = record { more = []; all = done; left = left; sum = sym (append-nil done); ends = a; whole = w };
         each = tt;
+        busy = tt;
         lines = λ lock. refl;
       }
 
   -- the lines of the end
-  goes-closing : {done left : List Item} (n : ℕ) (run : Run) → At file done left run → (isCut (run .phase) ≡ false → left ≡ []) → Goes file none done (closing n run)
-  unfolding closing past allSaid
-  goes-closing zero run a w =
+  goes-closing : {done left : List Item} (n : ℕ) (run : Run) → run .next + n ≤ planIn file .locks → At file done left run
+      → (isCut (run .phase) ≡ false → left ≡ []) → Goes file none done (closing n run)
+  unfolding closing past allSaid lockLine
+  goes-closing zero run m a w =
       let b = at-same (allSaid run) refl a in
-      goes-says none none (lastLine run) run (allSaid run) (standing a) (standing b) (λ lock. last-reports _ lock run) (goes-silence (allSaid run) b w)
-  goes-closing (suc n) run a w =
+      goes-says none none (lastLine run) run (allSaid run) (standing a) (standing b) (λ lock. last-reports _ lock run) (last-recounted (busySteps file) run)
+      (goes-silence (allSaid run) b w)
+  goes-closing (suc n) run m a w =
       let b = at-same (past run) refl a in
-      goes-says none none (lockLine run) run (past run) (standing a) (standing b) (λ lock. lock-reports _ lock run) (goes-closing n (past run) b w)
+      goes-says none none (lockLine run) run (past run) (standing a) (standing b) (λ lock. lock-reports _ lock run)
+      (lock-recounted (busySteps file) _ (run .next) _ (a .counted .busy (run .next) (omega arith))) (goes-closing n (past run) (omega arith) b w)
 
   -- a node's event, told or not
   goes-event : (test : Bool) (toTell : ℕ → List Moment) {done left : List Item} (run : Run) {c : Course} → isEvent (eventHere run) ≡ test → At file done left run
@@ -153,7 +204,7 @@ module _ {file : List ℕ} where
   unfolding past apart
   goes-event true toTell run e a g =
       goes-says (eventMoments (planIn file .rules) run) toTell (eventLine run) run (past run)
-      (standing a) (standing (at-same (past run) refl a)) (λ lock. event-reports _ lock run) g
+      (standing a) (standing (at-same (past run) refl a)) (λ lock. event-reports _ lock run) (event-recounted (busySteps file) run) g
   goes-event false toTell run e a g =
       goes-same toTell _ (λ lock. ap (λ (deeds : List Deed). apart (inStep (run .reached .steps)) deeds ++ toTell lock)
       (sym (no-event _ lock (run .next + 1) (eventHere run) e))) g
@@ -171,6 +222,37 @@ module _ {file : List ℕ} where
       (goes-event (isEvent (eventHere run)) _ run refl a (goes-telling n (past run) then (at-same (past run) refl a) g))
 
 module _ (file : List ℕ) (r : inRange (planIn file) ≡ true) where
+  -- the plan that it started from
+  plan-at : {done left : List Item} (run : Run) → At file done left run → run .reached .state .plan ≡ planIn file
+  plan-at {done} run a = ap (λ (t : State). t .plan) (a .state) ∙ plan-reached (planIn file) r done
+
+  -- one step more of the file: that step, if some node has the lock after it
+  step-busy : {done left : List Item} (run : Run) → At file done (step ∷ left) run → (lock : ℕ)
+      → fileSteps someHas file (run .reached .steps) lock + cond (busyAfter (run .reached .state) lock) 1 0 ≡ fileSteps someHas file (run .reached .steps + 1) lock
+  unfolding fileSteps afterItem reached
+  step-busy {done} {left} run a lock =
+      let start = startOf (planIn file) in
+      let after : ℕ → List Item → ℕ = λ n items. stepsAfterWhich (someHas lock) n items start in
+      ap₂ (λ (sum one : ℕ). sum + one) (ap₂ after (a .steps) (a .split))
+      (ap (λ (b : Bool). cond b 1 0) (busy-after (run .reached .state) lock ∙ ap (λ (s : State). someHas lock (stepping s .state)) (a .state)))
+      ∙ sym (one-after (someHas lock) done left start)
+      ∙ sym (ap₂ after (ap (λ (n : ℕ). n + 1) (a .steps) ∙ add-one (stepsAmong done)) (a .split))
+
+  -- so it is counted
+  step-counted : {done left : List Item} (run : Run) → At file done (step ∷ left) run → Counted file (oneStep run .reached)
+  unfolding oneStep reachedNext
+  step-counted run a =
+      let tally = run .reached .tally in
+      let most = in-range (planIn file) r .locks-most in
+      let locks : run .reached .state .plan .locks ≡ planIn file .locks = ap (λ (p : Plan). p .locks) (plan-at run a) in
+      record {
+        places = step-places _ _ _ _ tally ∙ a .counted .places;
+        busy = λ lock below.
+            step-exact _ _ _ _ tally lock (fileSteps someHas file (run .reached .steps) lock) (omega (arith, locks, most)) (omega (arith, a .counted .places, most))
+            (a .counted .busy lock below)
+            ∙ ap (λ (m : ℕ). min m (2 ^ 64 - 1)) (step-busy run a lock);
+      }
+
   -- a step, and what it has done
   step-stands : {done left : List Item} (run : Run) → At file done (step ∷ left) run → At file (done ++ (step ∷ [])) left (oneStep run)
   unfolding oneStep reachedNext afterItem doneAfter
@@ -179,6 +261,7 @@ module _ (file : List ℕ) (r : inRange (planIn file) ≡ true) where
         split = a .split ∙ sym (append-snoc done step left);
         state = ap (λ (s : State). stepping s .state) (a .state) ∙ sym (reached-more (planIn file) done step);
         steps = ap (λ (n : ℕ). n + 1) (a .steps) ∙ add-one (stepsAmong done) ∙ sym (among-more done step);
+        counted = step-counted run a;
       }
 
   -- its events are what it does
@@ -215,6 +298,7 @@ module _ (file : List ℕ) (r : inRange (planIn file) ≡ true) where
         split = a .split ∙ sym (append-snoc done (act action node lock) left);
         state = ap (λ (s : State). acting action s node lock .state) (a .state) ∙ sym (reached-more (planIn file) done (act action node lock));
         steps = a .steps ∙ sym (among-more done (act action node lock));
+        counted = record { places = a .counted .places; busy = a .counted .busy };
       }
 
   -- and its line reports what it does
@@ -222,11 +306,16 @@ module _ (file : List ℕ) (r : inRange (planIn file) ≡ true) where
       → reports (planIn file .rules) lock (actionLine action node own run) ≡ itemMoment file done (act action node own) lock
   unfolding timeOf
   act-tells {done} action node own run a lock =
-      let same : run .reached .state .plan ≡ planIn file = ap (λ (t : State). t .plan) (a .state) ∙ plan-reached (planIn file) r done in
-      ap (λ (p : Plan). reports (p .rules) lock (actionLine action node own run)) (sym same)
+      ap (λ (p : Plan). reports (p .rules) lock (actionLine action node own run)) (sym (plan-at run a))
       ∙ action-reports action node own lock run
       ∙ ap (λ (n : ℕ). noted (afterStep n) (deedsOf lock (act action node own) (run .reached .state)) []) (a .steps)
       ∙ ap (λ (t : State). noted (afterStep (stepsAmong done)) (deedsOf lock (act action node own) t) []) (a .state)
+
+  -- the lines of the end, in either way
+  goes-end : {done left : List Item} (phase : Phase) (run : Run) → At file done left run → (isCut phase ≡ false → left ≡ [])
+      → Goes file none done (closingAll (atEnd phase run))
+  unfolding closingAll atEnd locksOf
+  goes-end phase run a w = goes-closing _ (atEnd phase run) (omega (arith, ap (λ (p : Plan). p .locks) (plan-at run a))) (at-same _ refl a) w
 
   module _ (ceiling : ℕ) where
     -- a step and then the rest, or the end before it
@@ -237,7 +326,7 @@ module _ (file : List ℕ) (r : inRange (planIn file) ≡ true) where
     goes-step true run then a again =
         let b = step-stands run a in
         goes-item step (goes-same _ _ (step-tells run a) (goes-telling _ (oneStep run) then b (λ next. again (withNext (oneStep run) next) (at-same _ refl b))))
-    goes-step false run then a again = goes-closing _ (atEnd Cut run) (at-same _ refl a) (λ e. absurd (true≢false e))
+    goes-step false run then a again = goes-end Cut run a (λ e. absurd (true≢false e))
 
     -- so many steps, and then the rest
     goes-steps : {done left : List Item} (n : ℕ) (run : Run) (then : Run → Course) → At file done (itemSteps n left) run
@@ -250,11 +339,11 @@ module _ (file : List ℕ) (r : inRange (planIn file) ≡ true) where
     -- all items
     pub goes-items : {done : List Item} (l : List FileItem) (run : Run) → At file done (asItems l) run → Goes file none done (items ceiling l run)
     unfolding items asItems closingAll atEnd stepsItem
-    goes-items [] run a = goes-closing _ (atEnd Ended run) (at-same _ refl a) (λ e. refl)
+    goes-items [] run a = goes-end Ended run a (λ e. refl)
     goes-items (Steps n ∷ rest) run a =
         goes-steps n (stepsItem n run) (items ceiling rest) (at-same _ refl a) (λ next d b. goes-items rest next b)
     goes-items (Act action node lock ∷ rest) run a =
         let b = act-stands action node lock run a in
         goes-item (act action node lock) (goes-same _ _ (λ own. append-nil _)
         (goes-says _ none (actionLine action node lock run) run (actionItem action node lock run) (standing a) (standing b) (act-tells action node lock run a)
-        (goes-items rest (actionItem action node lock run) b)))
+        (action-recounted (busySteps file) action node lock run) (goes-items rest (actionItem action node lock run) b)))

@@ -1,4 +1,8 @@
 pub mod Deeds
+pub mod Counting
+pub mod Recounted
 pub mod Courses
 pub mod Corollaries
 pub mod AllItems
+pub mod Busy
+pub mod OnlyLockLines

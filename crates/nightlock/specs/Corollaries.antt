@@ -1,16 +1,21 @@
 -- What demand 3 says of a night run, as sentences that proofs/ proves of every accepted file and every ceiling.
-use Prim.Native.Nat.{ℕ, _/_}
+use Prim.Native.Nat.{ℕ, _/_, _<_}
 use mathlib.Core.Path.{_≡_}
-use mathlib.Core.Bool.{false}
+use mathlib.Core.Bool.{Bool, true, false}
 use mathlib.Core.List.{List, []}
-use lib.ListN.{length}
+use lib.ListN.{length, getD}
+use Rattle.cars.specs.Cars.{multiring}
+use Rattle.plan.specs.declared.Plan.{Plan}
+use Rattle.plan.specs.Plan.{inRange}
 use Rattle.ring.specs.declared.State.{State}
 use Rattle.ring.specs.Step.{stepping}
 use Rattle.nightfile.specs.File.{fileNumber, schedulePart}
-use Rattle.course.specs.Whole.{itemsFrom}
-use Rattle.run.specs.Outcomes.{fileCourse, fileOutcome}
-use Rattle.onelock.specs.OneLock.{Item, reached, history}
+use Rattle.course.specs.declared.Run.{Run}
+use Rattle.course.specs.Whole.{itemsFrom, course}
+use Rattle.run.specs.Outcomes.{fileCourse, fileOutcome, fileText}
+use Rattle.onelock.specs.OneLock.{Item, reached, history, plain}
 use Rattle.nightlock.specs.NightLock.{planIn, itemsOf, PassesThrough, IsReached, Stands, EachSaid, reported}
+use Rattle.nightlock.specs.Busy.{someHas, someHolds, fileSteps, textBy, isHeld, withBusy}
 
 -- the items that a run goes by are all items of its schedule, also those whose steps are summed
 abbrev pub AllItems : Type 0
@@ -38,3 +43,32 @@ pub record Reported (ceiling : ℕ) (file : List ℕ) : Type 0 where
 
 abbrev pub TheLinesAreTheHistory : Type 0
 TheLinesAreTheHistory = (ceiling : ℕ) (file : List ℕ) → fileNumber file ≡ 0 → Reported ceiling file
+
+-- a run's busy steps, in its text and in its result, are the steps that it did after which it is so of the lock
+pub record BusyStepsAre (so : ℕ → State → Bool) (ceiling : ℕ) (file : List ℕ) : Type 0 where
+  pub text : fileText ceiling file ≡ textBy (fileSteps so file) (fileCourse ceiling file .lines)
+  pub result : (lock : ℕ) → lock < planIn file .locks
+      → getD (fileOutcome ceiling file .busy) lock 0 ≡ fileSteps so file (fileOutcome ceiling file .steps) lock
+
+-- under both rule books "some node holds it or is letting it go"; a file's bytes are below 256
+abbrev pub BusyStepsOfSomeHas : Type 0
+BusyStepsOfSomeHas =
+    (ceiling : ℕ) (file : List ℕ) → ((place : ℕ) → getD file place 0 < 256) → fileNumber file ≡ 0 → BusyStepsAre someHas ceiling file
+
+-- "ring files keep their lines, since nothing is let go there": there it is the same to say "some node holds it"
+abbrev pub RingFilesKeepTheirLines : Type 0
+RingFilesKeepTheirLines =
+    (ceiling : ℕ) (file : List ℕ) → ((place : ℕ) → getD file place 0 < 256) → fileNumber file ≡ 0 → multiring (planIn file .rules) ≡ false
+    → BusyStepsAre someHolds ceiling file
+
+-- no other line tells of busy steps: a run with other busy counts, whatever they are, says the same but for the busy steps of its H lines
+abbrev pub OnlyLockLinesTellBusySteps : Type 0
+OnlyLockLinesTellBusySteps =
+    (ceiling : ℕ) (schedule counts : List ℕ) (run : Run) (count : ℕ → ℕ → ℕ)
+    → textBy count (course ceiling schedule (withBusy counts run) .lines) ≡ textBy count (course ceiling schedule run .lines)
+
+-- after every schedule a lock is busy exactly where its history gives it a holder: from its grant to its ending, which under multiring rules is the
+-- didv's going
+abbrev pub BusyWhileHeld : Type 0
+BusyWhileHeld =
+    (plan : Plan) → inRange plan ≡ true → (items : List Item) (lock : ℕ) → someHas lock (reached plan items) ≡ isHeld (plain (history plan items lock))

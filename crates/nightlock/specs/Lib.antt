@@ -1,2 +1,3 @@
 pub mod NightLock
+pub mod Busy
 pub mod Corollaries

@@ -1,7 +1,7 @@
 -- Where a step gives a user node no event, the locks that the node holds and those that it is letting go stay as they were.
 use Prim.Native.Nat.{ℕ, zero, suc, _≤_, _<_}
-use mathlib.Core.Path.{_≡_, refl, _∙_, sym, ap, subst}
-use mathlib.Core.Bool.{Bool, true, false, cond}
+use mathlib.Core.Path.{_≡_, refl, _∙_, sym, ap, ap₂, subst}
+use mathlib.Core.Bool.{Bool, true, false, cond, _||_}
 use mathlib.Core.List.{List}
 use native.Mathlib.Omega.{arith}
 use lib.Dec.{eqb, ltb}
@@ -9,11 +9,13 @@ use lib.ListN.{getD, set, length, length-set, length-replicate, List·getD-eq-de
 use lib.Seq.{getD-set-same, getD-set-other, set-out}
 use borrow.Author.Tests.{eqb-true, eqb-false, ltb-true, ltb-false}
 use Rattle.lists.specs.Loops.{iterate, inOrder}
+use Rattle.words.specs.Words.{has}
 use Rattle.cars.specs.declared.Car.{Car}
 use Rattle.plan.specs.Plan.{valueAt}
 use Rattle.usernode.specs.declared.Node.{Node}
 use Rattle.usernode.specs.declared.Rule.{Rule}
 use Rattle.usernode.specs.declared.Rule.the-variants.{Passes, SendsReqp, SendsDov, SendsDidv, OwnReqp, OwnFailp, FailsReqp, OwnDov, LosesLock}
+use Rattle.usernode.specs.Node.{had}
 use Rattle.usernode.specs.Rules.{rule}
 use Rattle.turns.specs.declared.Turn.{Turn}
 use Rattle.turns.specs.declared.Event.the-variants.{Nothing}
@@ -29,6 +31,11 @@ use Rattle.ring.specs.Step.{StepTold, nextState, stepNumber, refused, done, mov
 pub record Kept (before after : Node) : Type 0 where
   pub held : after .held ≡ before .held
   pub letting : after .letting ≡ before .letting
+
+-- so it has the same locks
+pub kept-had : {before after : Node} (lock : ℕ) → Kept before after → had after lock ≡ had before lock
+unfolding had
+kept-had lock kept = ap₂ (λ (held letting : ℕ). has held lock || has letting lock) (kept .held) (kept .letting)
 
 -- by the nine rules
 rule-keeps : (rules me : ℕ) (arrival : Car) (node : Node) (r : Rule) → eventOf r ≡ Nothing → Kept node (apply rules me arrival node r)

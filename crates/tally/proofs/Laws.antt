@@ -1,6 +1,6 @@
 -- One turn more of each loop of this crate, and the busy locks read off one word.
 use Prim.Native.Nat.{ℕ, zero, suc, _+_, _-_, _^_, _<_, min}
-use mathlib.Core.Path.{_≡_, refl, _∙_, sym, ap, subst}
+use mathlib.Core.Path.{_≡_, refl, _∙_, sym, ap, ap₂, subst}
 use mathlib.Core.Bool.{Bool, false, cond, _||_}
 use mathlib.Core.List.{List}
 use native.Mathlib.Omega.{arith}
@@ -12,6 +12,7 @@ use Rattle.lists.proofs.Laws.{some-more, inOrder-more, inOrder-same}
 use Rattle.words.specs.Words.{has}
 use Rattle.words.proofs.Sets.{has-or}
 use Rattle.usernode.specs.declared.Node.{Node}
+use Rattle.usernode.specs.Node.{had}
 use Rattle.turns.specs.declared.Event.{Event}
 use Rattle.turns.specs.declared.Event.the-variants.{Nothing, Granted, Failed, Lost, Back, Sent}
 use Rattle.ring.specs.declared.Happening.{Happening}
@@ -21,12 +22,14 @@ use Rattle.tally.specs.Tally.{more, counted, busy, busyLock, busyCounts,
 use Rattle.tally.specs.declared.Tally.{Tally}
 use Rattle.tally.proofs.Times.{changed, atPlace, all-times}
 
--- one node more in the word of what is held
+-- one node more in the word of what is had
 pub busy-more : (nodes : List Node) (word i lock : ℕ) → has word lock ≡ busy nodes i lock
-    → has (bitOr word (getD nodes i restNode .held)) lock ≡ busy nodes (i + 1) lock
-unfolding busy
+    → has (bitOr word (bitOr (getD nodes i restNode .held) (getD nodes i restNode .letting))) lock ≡ busy nodes (i + 1) lock
+unfolding busy had
 busy-more nodes word i lock e =
-    has-or word _ lock ∙ ap (λ (b : Bool). b || has (getD nodes i restNode .held) lock) e ∙ sym (some-more (λ place. has (getD nodes place restNode .held) lock) i)
+    has-or word _ lock
+    ∙ ap₂ (λ (before here : Bool). before || here) e (has-or (getD nodes i restNode .held) (getD nodes i restNode .letting) lock)
+    ∙ sym (some-more (λ place. had (getD nodes place restNode) lock) i)
 
 -- one count more in the sum
 pub sum-more : (counts : List ℕ) (i sum next : ℕ) → sum ≡ inOrder (addUp counts) i 0 → next ≡ min (sum + getD counts i 0) (2 ^ 64 - 1)
@@ -34,7 +37,7 @@ pub sum-more : (counts : List ℕ) (i sum next : ℕ) → sum ≡ inOrder (addUp
 unfolding addUp
 sum-more counts i sum next e n = n ∙ ap (λ (s : ℕ). min (s + getD counts i 0) (2 ^ 64 - 1)) e ∙ sym (inOrder-more (addUp counts) i 0)
 
--- one lock more, by the word of what is held
+-- one lock more, by the word of what is had
 abbrev pub wordLock : ℕ → ℕ → ℕ → List ℕ → List ℕ
 wordLock word steps = atPlace (has word) (iterate more steps)
 
@@ -42,7 +45,7 @@ pub word-more : (word steps lock : ℕ) (counts start next : List ℕ) → count
     → next ≡ inOrder (wordLock word steps) (lock + 1) start
 word-more word steps lock counts start next e n = n ∙ ap (wordLock word steps lock) e ∙ sym (inOrder-more (wordLock word steps) lock start)
 
--- a word that has what the nodes hold counts as they do, so many times
+-- a word that has what the nodes have counts as they do, so many times
 pub word-busy : (nodes : List Node) (count word : ℕ) → ((lock : ℕ) → has word lock ≡ busy nodes count lock) → (locks steps : ℕ) (counts : List ℕ)
     → inOrder (wordLock word steps) locks counts ≡ iterate (busyCounts nodes count locks) steps counts
 unfolding busyCounts busyLock counted

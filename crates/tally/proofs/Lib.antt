@@ -3,3 +3,4 @@ pub mod Times
 pub mod Kept
 pub mod Silent
 pub mod Small
+pub mod Exact

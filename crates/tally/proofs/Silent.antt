@@ -9,7 +9,6 @@ use native.Mathlib.Omega.{arith}
 use lib.ListN.{getD}
 use Rattle.lists.specs.Loops.{iterate}
 use Rattle.lists.proofs.Laws.{every-at, iterate-first, iterate-same, inOrder-same, some-same}
-use Rattle.words.specs.Words.{has}
 use Rattle.plan.specs.Plan.{nodeCount}
 use Rattle.usernode.specs.declared.Node.{Node}
 use Rattle.turns.specs.declared.Event.{Event}
@@ -23,7 +22,7 @@ use Rattle.ring.specs.Advance.{noEvent, silent}
 use Rattle.tally.specs.declared.Tally.{Tally}
 use Rattle.tally.specs.Tally.{counted, busy, busyLock, busyCounts, stepTally, noEvents, silentTally}
 use Rattle.tally.proofs.Laws.{none-tally, no-events}
-use Rattle.tally.proofs.Kept.{step-keeps}
+use Rattle.tally.proofs.Kept.{Kept, kept-had, step-keeps}
 
 -- where nothing happened, the event is Nothing
 no-event : (event : Event) → noEvent event ≡ true → event ≡ Nothing
@@ -35,12 +34,12 @@ no-event (Lost lock) e = cc
 no-event (Back lock) e = cc
 no-event (Sent lock) e = cc
 
--- nodes that hold the same keep the same locks busy
+-- nodes that have the same keep the same locks busy
 pub busy-same : (old new : List Node) (count lock : ℕ)
-    → ((place : ℕ) → place < count → getD new place restNode .held ≡ getD old place restNode .held)
+    → ((place : ℕ) → place < count → Kept (getD old place restNode) (getD new place restNode))
     → busy new count lock ≡ busy old count lock
 unfolding busy
-busy-same old new count lock e = some-same _ _ count (λ place below. ap (λ (word : ℕ). has word lock) (e place below))
+busy-same old new count lock kept = some-same _ _ count (λ place below. kept-had lock (kept place below))
 
 -- nodes that keep the same locks busy, and no event: the same is counted
 same-tally : (old new : List Node) (events : List Happening) (count locks : ℕ) (tally : Tally)
@@ -64,7 +63,7 @@ module _ (state : State) (none : silent state ≡ true) where
   silent-busy : (lock : ℕ) → busy (stepping state .state .nodes) (min (nodeCount (state .plan)) 64) lock ≡ busy (state .nodes) (min (nodeCount (state .plan)) 64) lock
   silent-busy lock =
       busy-same (state .nodes) (stepping state .state .nodes) (min (nodeCount (state .plan)) 64) lock
-      (λ place below. step-keeps state place (omega arith) (silent-place place (omega arith)) .held)
+      (λ place below. step-keeps state place (omega arith) (silent-place place (omega arith)))
 
   -- a silent step is counted as one without an event over the nodes before it
   pub silent-step : (locks : ℕ) (tally : Tally)

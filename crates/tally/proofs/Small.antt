@@ -41,7 +41,7 @@ counted-most : (counts : List ℕ) (place lock : ℕ) → getD (counted counts p
 unfolding counted
 counted-most counts place lock = set-most counts place (more (getD counts place 0)) lock (more-most (getD counts place 0))
 
-counted-other : (counts : List ℕ) (place lock : ℕ) → (lock ≡ place → ⊥) → getD (counted counts place) lock 0 ≡ getD counts lock 0
+pub counted-other : (counts : List ℕ) (place lock : ℕ) → (lock ≡ place → ⊥) → getD (counted counts place) lock 0 ≡ getD counts lock 0
 unfolding counted
 counted-other counts place lock other = getD-set-other counts place lock _ 0 other
 

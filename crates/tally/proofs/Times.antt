@@ -13,7 +13,7 @@ use Rattle.lists.specs.Loops.{iterate, inOrder}
 use Rattle.tally.specs.Tally.{more}
 
 -- one more of a capped count
-one-more : (m : ℕ) → more (min m (2 ^ 64 - 1)) ≡ min (m + 1) (2 ^ 64 - 1)
+pub one-more : (m : ℕ) → more (min m (2 ^ 64 - 1)) ≡ min (m + 1) (2 ^ 64 - 1)
 unfolding more
 one-more m = go (ltb (min m (2 ^ 64 - 1)) (2 ^ 64 - 1)) refl
   where

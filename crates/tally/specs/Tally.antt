@@ -1,13 +1,13 @@
--- 01, "The run and its lines": what a run counts for each lock: busy steps, grants and N events.
+-- 01, "The run and its lines", with busy steps as 02's item 1 has them: what a run counts for each lock: busy steps, grants and N events.
 use Prim.Native.Nat.{ℕ, _+_, _-_, _^_, min}
 use mathlib.Core.Bool.{Bool, cond, true, false}
 use mathlib.Core.List.{List}
 use lib.Dec.{ltb}
 use lib.ListN.{getD, set, replicate}
 use Rattle.lists.specs.Loops.{some, iterate, inOrder}
-use Rattle.words.specs.Words.{has}
 use Rattle.plan.specs.Plan.{nodePlaces}
 use Rattle.usernode.specs.declared.Node.{Node}
+use Rattle.usernode.specs.Node.{had}
 use Rattle.turns.specs.declared.Event.{Event}
 use Rattle.turns.specs.declared.Event.the-variants.{Nothing, Granted, Failed, Lost, Back, Sent}
 use Rattle.ring.specs.declared.Happening.{Happening}
@@ -34,11 +34,11 @@ more count = cond (ltb count (2 ^ 64 - 1)) (count + 1) count
 unfoldable pub counted : List ℕ → ℕ → List ℕ
 counted counts lock = set counts lock (more (getD counts lock 0))
 
--- a lock is busy after a step if "some node holds it", of the first nodes
+-- 02: "A lock is busy after a step if some node holds it or is letting it go", of the first nodes
 unfoldable pub busy : List Node → ℕ → ℕ → Bool
-busy nodes count lock = some (λ place. has (getD nodes place restNode .held) lock) count
+busy nodes count lock = some (λ place. had (getD nodes place restNode) lock) count
 
--- "busy steps, the steps after which some node holds it": one more for each busy lock of the first locks
+-- busy steps, the steps after which a lock is busy: one more for each busy lock of the first locks
 unfoldable pub busyLock : List Node → ℕ → ℕ → List ℕ → List ℕ
 busyLock nodes count lock counts = cond (busy nodes count lock) (counted counts lock) counts
 
@@ -70,7 +70,7 @@ placeTally events place tally = eventTally (getD events place quiet .event) tall
 unfoldable pub eventsTally : List Happening → ℕ → Tally → Tally
 eventsTally events count tally = inOrder (placeTally events) count tally
 
--- what is counted after a step: its events, and who holds what then; of at most as many nodes and locks as there are places
+-- what is counted after a step: its events, and who has what then; of at most as many nodes and locks as there are places
 unfoldable pub stepTally : List Node → List Happening → ℕ → ℕ → Tally → Tally
 stepTally nodes events count locks tally =
     record {
@@ -83,7 +83,7 @@ stepTally nodes events count locks tally =
 abbrev pub noEvents : List Happening
 noEvents = replicate nodePlaces quiet
 
--- what is counted after so many steps without an event: who holds what stays as it is
+-- what is counted after so many steps without an event: who has what stays as it is
 unfoldable pub silentTally : List Node → ℕ → ℕ → ℕ → Tally → Tally
 silentTally nodes count locks steps tally = iterate (stepTally nodes noEvents count locks) steps tally
 

@@ -71,8 +71,8 @@ fn at_most_64(number: u8) -> usize
     64
 }
 
-// The locks that some of the first nodes hold.
-fn held_by_some(nodes: [Node; NODES], count: usize) -> u64
+// The locks that some of the first nodes hold or are letting go.
+fn had_by_some(nodes: [Node; NODES], count: usize) -> u64
     requires { ⌜ count ≤ 64 ⌝ }
     ensures { λ r. ⌜ ((lock : ℕ) → has r lock ≡ busy nodes count lock) ⌝ }
 {
@@ -80,7 +80,8 @@ fn held_by_some(nodes: [Node; NODES], count: usize) -> u64
     let mut i = 0;
     while i < count {
         let node = nodes[i];
-        word = word | node.held;
+        let had = node.held | node.letting;
+        word = word | had;
         i += 1;
     }
     word
@@ -97,7 +98,7 @@ fn busy_counts(
     requires { ⌜ (count ≤ 64) × (locks ≤ 64) ⌝ }
     ensures { λ r. ⌜ r ≡ iterate (busyCounts nodes count locks) steps counts ⌝ }
 {
-    let word = held_by_some(nodes, count);
+    let word = had_by_some(nodes, count);
     let mut next = counts;
     let mut lock: usize = 0;
     while lock < locks {
@@ -170,7 +171,7 @@ fn events_tally(events: [Happening; NODES], count: usize, tally: Tally) -> Tally
     next
 }
 
-// What is counted after a step: its events, and who holds what then.
+// What is counted after a step: its events, and who has what then.
 pub fn step_tally(
     nodes: [Node; NODES],
     events: [Happening; NODES],
@@ -193,7 +194,7 @@ pub fn step_tally(
     }
 }
 
-// What is counted after so many steps without an event: who holds what stays as it is.
+// What is counted after so many steps without an event: who has what stays as it is.
 pub fn silent_tally(nodes: [Node; NODES], count: u8, locks: u8, steps: u16, tally: Tally) -> Tally
     ensures { λ r. ⌜ r ≡ silentTally nodes count locks steps tally ⌝ }
 {

@@ -55,7 +55,7 @@ Shows s lock t = Tells (nodeCount (s .plan)) (nodeCount (s .plan)) (having s loc
 
 module _ (s : State) (g : Good s) where
   -- the words of a node of a good state are as they should be
-  fine-node : (q : ℕ) → Upto (nodeCount (s .plan)) q → Fine (s .plan .rules) (nodeOf s q)
+  pub fine-node : (q : ℕ) → Upto (nodeCount (s .plan)) q → Fine (s .plan .rules) (nodeOf s q)
   unfolding nodeOf
   fine-node q u =
       fine (s .plan .rules) (nodeCount (s .plan)) (s .plan .locks) (nodeOf s q) (in-range (s .plan) (g .plan) .locks-most)

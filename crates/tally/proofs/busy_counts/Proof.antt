@@ -17,8 +17,8 @@ Inv-loop count locks steps word next₀ lock₀ next lock =
 abbrev μ-loop : tie.MeasureT-loop
 μ-loop count locks steps word next₀ lock₀ next lock = locks - lock
 
-held-by-some-requires : tie.Need-held-by-some-requires Inv-loop μ-loop
-held-by-some-requires c κs = search needs
+had-by-some-requires : tie.Need-had-by-some-requires Inv-loop μ-loop
+had-by-some-requires c κs = search needs
 
 loop-holds : tie.Need-loop-holds Inv-loop μ-loop
 loop-holds c = (search needs, search needs, sym (inOrder-none _ _))
@@ -67,8 +67,8 @@ returns : tie.Need-returns Inv-loop μ-loop
 returns c =
     let done : c .before .loop .lock ≡ c .before .before .before .args .locks = omega arith in
     c .before .loop .inv .2
-    ∙ ap (λ (n : ℕ). inOrder (wordLock (c .before .before .held-by-some .result) (c .before .before .before .args .steps)) n (c .before .before .before .args .counts)) done
-    ∙ word-busy _ _ _ (c .before .before .held-by-some .ensures) _ _ _
+    ∙ ap (λ (n : ℕ). inOrder (wordLock (c .before .before .had-by-some .result) (c .before .before .before .args .steps)) n (c .before .before .before .args .counts)) done
+    ∙ word-busy _ _ _ (c .before .before .had-by-some .ensures) _ _ _
 
 pub busy-counts-spec : {M : Type 1} → statement M
 busy-counts-spec =
@@ -76,7 +76,7 @@ busy-counts-spec =
     (tie.spec
     Inv-loop
     μ-loop
-    held-by-some-requires
+    had-by-some-requires
     loop-holds
     cast-has
     has-requires

@@ -1,4 +1,4 @@
--- `tally::held_by_some` meets its contract. The invariant of its loop is the definition up to the place reached.
+-- `tally::had_by_some` meets its contract. The invariant of its loop is the definition up to the place reached.
 use Prim.Native.Nat.{ℕ, _≤_, _-_}
 use mathlib.Core.Path.{_≡_, _∙_, sym, ap}
 use native.Mathlib.Omega.{arith}
@@ -9,8 +9,8 @@ use Rattle.words.proofs.Sets.{has-none}
 use Rattle.tally.proofs.Laws.{busy-more}
 use Rattle.ring.specs.State.{restNode}
 use Rattle.tally.specs.Tally.{busy}
-use Rattle.tally.proofs.held_by_some.Statement.{statement}
-use Rattle.tally.proofs.held_by_some.Tie as tie
+use Rattle.tally.proofs.had_by_some.Statement.{statement}
+use Rattle.tally.proofs.had_by_some.Tie as tie
 
 abbrev Inv-loop : tie.InvT-loop
 Inv-loop count nodes word₀ i₀ word i = (i ≤ count) × ((lock : ℕ) → has word lock ≡ busy nodes i lock)
@@ -43,8 +43,8 @@ returns c =
     let done : c .before .loop .i ≡ c .before .before .args .count = omega arith in
     λ lock. c .before .loop .inv .1 lock ∙ ap (λ (n : ℕ). busy (c .before .before .args .t1) n lock) done
 
-pub held-by-some-spec : {M : Type 1} → statement M
-held-by-some-spec =
+pub had-by-some-spec : {M : Type 1} → statement M
+had-by-some-spec =
     tie.close
     (tie.spec
     Inv-loop
