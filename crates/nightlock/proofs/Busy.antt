@@ -1,11 +1,10 @@
 -- The busy steps of a night run: the sentences of specs/Corollaries, proved of every accepted file and every ceiling.
-use Prim.Native.Nat.{ℕ, suc, _+_, _-_, _≤_, _<_}
+use Prim.Native.Nat.{ℕ, suc, _-_}
 use mathlib.Core.Path.{_≡_, refl, _∙_, ap, sym, subst}
-use mathlib.Core.Bool.{Bool, true, false, _||_, or-false, true≢false}
-use mathlib.Core.List.{List, [], _∷_, _++_}
+use mathlib.Core.Bool.{Bool, true, false, _||_, or-false}
+use mathlib.Core.List.{List, []}
 use native.Mathlib.Omega.{arith}
 use lib.ListN.{getD}
-use Rattle.lists.specs.Loops.{some}
 use Rattle.lists.proofs.Laws.{some-at, some-found, some-same}
 use Rattle.words.specs.Words.{has}
 use Rattle.words.proofs.Sets.{has-none}
@@ -15,22 +14,19 @@ use Rattle.plan.specs.Plan.{inRange, nodeCount}
 use Rattle.usernode.specs.Node.{had}
 use Rattle.ring.specs.declared.State.{State}
 use Rattle.ring.specs.State.{restNode, nodeOf, startOf}
-use Rattle.nightfile.specs.File.{fileNumber}
 use Rattle.run.specs.Outcomes.{outcomeOf, fileCourse, fileOutcome, fileText}
-use Rattle.onelock.specs.OneLock.{Item, afterItem, afterAll, reached, Lock, history, plain}
-use Rattle.onelock.proofs.Line.Numbers.{Upto}
+use Rattle.onelock.specs.OneLock.{Item, afterAll, reached, Lock}
 use Rattle.onelock.proofs.Run.Items.{having, fine-node}
 use Rattle.onelock.proofs.Run.Moments.{Follows, nobody, holder}
 use Rattle.onelock.proofs.Run.Histories.{follows}
-use Rattle.onelock.proofs.Run.Parts.{reached-more}
 use Rattle.onelock.proofs.Run.Reached.{good-reached, plan-reached}
 use Rattle.nightlock.specs.NightLock.{planIn, itemsIn, IsReached}
-use Rattle.nightlock.specs.Busy.{someHas, someHolds, fileSteps, textBy, isHeld}
+use Rattle.nightlock.specs.Busy.{someHas, someHolds, fileSteps, isHeld}
 use Rattle.nightlock.specs.Corollaries.{BusyStepsAre, BusyStepsOfSomeHas, RingFilesKeepTheirLines, BusyWhileHeld}
 use Rattle.nightlock.proofs.Counting.{same-after, not-capped}
 use Rattle.nightlock.proofs.Recounted.{text-recounted, text-same}
 use Rattle.nightlock.proofs.Courses.{busySteps}
-use Rattle.nightlock.proofs.Corollaries.{plan-in-range, file-goes}
+use Rattle.nightlock.proofs.Corollaries.{plan-in-range, file-goes, reached-next}
 
 -- every line says the busy steps that are counted, and no count is at its top
 pub busy-steps-of-some-has : BusyStepsOfSomeHas
@@ -71,11 +67,6 @@ module _ (plan : Plan) (r : inRange plan ≡ true) where
       (ap (λ (k : ℕ). getD (state .nodes) k restNode .letting) (here place) ∙ none)
       ∙ ap (λ (b : Bool). has (getD (state .nodes) place restNode .held) lock || b) (has-none lock) ∙ or-false _)
 
-  -- one item more is reached too
-  reached-next : (item : Item) (state : State) → IsReached plan state → IsReached plan (afterItem item state)
-  reached-next item state x =
-      record { items = x .items ++ (item ∷ []); is = ap (afterItem item) (x .is) ∙ sym (reached-more plan (x .items) item) }
-
 pub ring-files-keep-their-lines : RingFilesKeepTheirLines
 unfolding fileSteps reached afterAll
 ring-files-keep-their-lines ceiling file bytes e ring =
@@ -84,7 +75,7 @@ ring-files-keep-their-lines ceiling file bytes e ring =
     let same : (lock : ℕ) (state : State) → IsReached plan state → someHas lock state ≡ someHolds lock state =
     λ lock state x. subst (λ s. someHas lock s ≡ someHolds lock s) (sym (x .is)) (ring-holds plan r ring lock (x .items)) in
     other-count someHas someHolds ceiling file
-    (λ steps lock. same-after (IsReached plan) (someHas lock) (someHolds lock) (same lock) (reached-next plan r) steps (itemsIn file) (startOf plan)
+    (λ steps lock. same-after (IsReached plan) (someHas lock) (someHolds lock) (same lock) (reached-next plan) steps (itemsIn file) (startOf plan)
     (record { items = []; is = refl }))
     (busy-steps-of-some-has ceiling file bytes e)
 

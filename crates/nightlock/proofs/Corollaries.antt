@@ -5,11 +5,10 @@ use mathlib.Core.Bool.{true}
 use mathlib.Core.List.{List, [], _∷_, _++_}
 use native.Mathlib.Omega.{arith}
 use lib.ListN.{getD, length-replicate}
+use Rattle.plan.specs.declared.Plan.{Plan}
 use Rattle.plan.specs.Plan.{nodePlaces, inRange}
 use Rattle.ring.specs.declared.State.{State}
 use Rattle.ring.specs.State.{startOf, startState}
-use Rattle.ring.specs.Actions.{acting}
-use Rattle.ring.specs.Step.{stepping}
 use Rattle.tally.specs.Tally.{emptyTally, noCounts}
 use Rattle.tally.proofs.Small.{none-busy}
 use Rattle.nightfile.specs.File.{fileNumber, planOf, schedulePart}
@@ -21,7 +20,7 @@ use Rattle.course.proofs.Moves.{AtItems, course-items, withNext}
 use Rattle.onelock.specs.OneLock.{Item, step, act, afterItem, afterAll, reached, inStep, historyFrom, history, stepsAmong}
 use Rattle.onelock.proofs.Run.Parts.{reached-more}
 use Rattle.onelock.proofs.Theorems.{never-stuck}
-use Rattle.nightlock.specs.NightLock.{planIn, itemsIn, at-first, by-step, by-action}
+use Rattle.nightlock.specs.NightLock.{planIn, itemsIn, at-first, by-step, by-action, IsReached}
 use Rattle.nightlock.specs.Busy.{someHas, fileSteps}
 use Rattle.nightlock.specs.Corollaries.{EveryStateIsReached, EveryLineStands, NoStepRefused, TheLinesAreTheHistory}
 use Rattle.nightlock.proofs.Deeds.{apart, tells-none}
@@ -68,22 +67,18 @@ file-goes ceiling file e =
 pub every-line-stands : EveryLineStands
 every-line-stands ceiling file e = file-goes ceiling file e .each
 
+-- one item more is reached too
+pub reached-next : (plan : Plan) (item : Item) (state : State) → IsReached plan state → IsReached plan (afterItem item state)
+reached-next plan item state x =
+    record { items = x .items ++ (item ∷ []); is = ap (afterItem item) (x .is) ∙ sym (reached-more plan (x .items) item) }
+
 -- the start is reached by no item, and each move of the run is one item more
 pub every-state-is-reached : EveryStateIsReached
 unfolding beginning startState planIn reached afterAll reachedNext actionItem afterItem
 every-state-is-reached file e _ at-first = record { items = []; is = rw (plan-in-range file e) }
-every-state-is-reached file e _ (by-step before way) =
-    let x = every-state-is-reached file e (before .state) way in
-    record {
-      items = x .items ++ (step ∷ []);
-      is = ap (λ (s : State). stepping s .state) (x .is) ∙ sym (reached-more (planIn file) (x .items) step);
-    }
+every-state-is-reached file e _ (by-step before way) = reached-next (planIn file) step (before .state) (every-state-is-reached file e (before .state) way)
 every-state-is-reached file e _ (by-action action node lock before way) =
-    let x = every-state-is-reached file e (before .reached .state) way in
-    record {
-      items = x .items ++ (act action node lock ∷ []);
-      is = ap (λ (s : State). acting action s node lock .state) (x .is) ∙ sym (reached-more (planIn file) (x .items) (act action node lock));
-    }
+    reached-next (planIn file) (act action node lock) (before .reached .state) (every-state-is-reached file e (before .reached .state) way)
 
 -- C of demand 3, of the file's plan
 pub no-step-refused : NoStepRefused

@@ -1,6 +1,6 @@
 -- Busy counts reach no line but the H lines: along a course two runs that differ only in them stay so, and say the same but for the busy steps.
 use Prim.Native.Nat.{ℕ, zero, suc, _-_, min}
-use mathlib.Core.Path.{_≡_, refl, _∙_, sym, ap}
+use mathlib.Core.Path.{_≡_, refl, _∙_, ap}
 use mathlib.Core.Bool.{Bool, true, false, cond}
 use mathlib.Core.List.{List, [], _∷_, _++_}
 use lib.Dec.{ltb}
@@ -13,7 +13,7 @@ use Rattle.ring.specs.declared.Happening.{Happening}
 use Rattle.ring.specs.Walk.{quiet}
 use Rattle.ring.specs.Step.{stepping}
 use Rattle.tally.specs.declared.Tally.{Tally}
-use Rattle.tally.specs.Tally.{busyCounts, eventTally, placeTally, eventsTally, stepTally}
+use Rattle.tally.specs.Tally.{eventTally, placeTally, eventsTally, stepTally}
 use Rattle.items.specs.declared.Item.{Item}
 use Rattle.items.specs.declared.Item.the-variants.{Steps, Act}
 use Rattle.wording.specs.declared.Line.{Line}
