@@ -1,6 +1,7 @@
--- Busy counts reach no line but the H lines: along a course two runs that differ only in them stay so, and say the same but for the busy steps.
+-- Busy counts reach nothing but the H lines and themselves: along a course two runs that differ only in them stay so, and say the same but for the
+-- busy steps.
 use Prim.Native.Nat.{ℕ, zero, suc, _-_, min}
-use mathlib.Core.Path.{_≡_, refl, _∙_, ap}
+use mathlib.Core.Path.{_≡_, refl, _∙_, sym, ap, ap₂, subst}
 use mathlib.Core.Bool.{Bool, true, false, cond}
 use mathlib.Core.List.{List, [], _∷_, _++_}
 use lib.Dec.{ltb}
@@ -25,7 +26,7 @@ use Rattle.course.specs.Standing.{nodesOf, locksOf, reachedNext, oneStep, past,
 use Rattle.course.specs.Wording.{eventHere, isEvent, eventLine, actionRefusal, actionLine, lockLine, lastLine, refusalLine}
 use Rattle.course.specs.Whole.{Course, says, silence, telling, tellingAll, closing, closingAll, manySteps, items, itemsFrom, onItems, onSteps, working, courseIn, course}
 use Rattle.nightlock.specs.Busy.{recounted, textBy, withBusy}
-use Rattle.nightlock.specs.Corollaries.{OnlyLockLinesTellBusySteps}
+use Rattle.nightlock.specs.Corollaries.{OnlyBusyDiffers, OnlyLockLinesTellBusySteps}
 
 -- a tally with other busy counts
 abbrev other : List ℕ → Tally → Tally
@@ -74,109 +75,104 @@ step-other counts run =
       over = run .over;
     }
 
-module _ (count : ℕ → ℕ → ℕ) where
-  -- two courses that say the same but for busy steps
-  abbrev Same : Course → Course → Type 0
-  Same c d = textBy count (c .lines) ≡ textBy count (d .lines)
+-- what comes then, from runs that differ only in their busy counts
+abbrev Then : (Run → Course) → Type 0
+Then then = (counts : List ℕ) (run : Run) → OnlyBusyDiffers (then (withBusy counts run)) (then run)
 
-  -- what comes then, from runs that differ only in their busy counts
-  abbrev Then : (Run → Course) → Type 0
-  Then then = (counts : List ℕ) (run : Run) → Same (then (withBusy counts run)) (then run)
+-- nothing more
+same-silence : Then silence
+unfolding silence withBusy
+same-silence counts run = record { text = λ count. refl; end = refl }
 
-  -- nothing more
-  same-silence : Then silence
-  unfolding silence
-  same-silence counts run = refl
+-- a line that is the same but for busy steps, and then the rest
+same-says : (line line′ : Line) (before before′ after after′ : Run) (c d : Course) → ((count : ℕ → ℕ → ℕ) → recounted count line ≡ recounted count line′)
+    → OnlyBusyDiffers c d → OnlyBusyDiffers (says line before after c) (says line′ before′ after′ d)
+unfolding says textBy
+same-says line line′ before before′ after after′ c d e s =
+    record { text = λ count. ap₂ (λ (first rest : List ℕ). first ++ rest) (ap text (e count)) (s .text count); end = s .end }
 
-  -- a line that is the same but for busy steps, and then the rest
-  same-says : (line line′ : Line) (before before′ after after′ : Run) (c d : Course) → recounted count line ≡ recounted count line′ → Same c d
-      → Same (says line before after c) (says line′ before′ after′ d)
-  unfolding says textBy
-  same-says line line′ before before′ after after′ c d e s =
-      ap (λ (l : Line). text l ++ textBy count (c .lines)) e ∙ ap (λ (rest : List ℕ). text (recounted count line′) ++ rest) s
+perhaps : (event : Bool) (line : Line) (before before′ after after′ : Run) (c d : Course) → OnlyBusyDiffers c d
+    → OnlyBusyDiffers (cond event (says line before after c) c) (cond event (says line before′ after′ d) d)
+perhaps true line before before′ after after′ c d s = same-says line line before before′ after after′ c d (λ count. refl) s
+perhaps false line before before′ after after′ c d s = s
 
-  perhaps : (event : Bool) (line : Line) (before before′ after after′ : Run) (c d : Course) → Same c d
-      → Same (cond event (says line before after c) c) (cond event (says line before′ after′ d) d)
-  perhaps true line before before′ after after′ c d s = same-says line line before before′ after after′ c d refl s
-  perhaps false line before before′ after after′ c d s = s
+-- the events of a step
+same-telling : (n : ℕ) (then : Run → Course) → Then then → Then (λ run. telling n run then)
+unfolding telling past eventHere eventLine withBusy
+same-telling zero then t counts run = t counts run
+same-telling (suc n) then t counts run =
+    perhaps (isEvent (eventHere run)) (eventLine run) (withBusy counts run) run (withBusy counts (past run)) (past run)
+    (telling n (withBusy counts (past run)) then) (telling n (past run) then) (same-telling n then t counts (past run))
 
-  -- the events of a step
-  same-telling : (n : ℕ) (then : Run → Course) → Then then → Then (λ run. telling n run then)
-  unfolding telling past eventHere eventLine withBusy
-  same-telling zero then t counts run = t counts run
-  same-telling (suc n) then t counts run =
-      perhaps (isEvent (eventHere run)) (eventLine run) (withBusy counts run) run (withBusy counts (past run)) (past run)
-      (telling n (withBusy counts (past run)) then) (telling n (past run) then) (same-telling n then t counts (past run))
+same-telling-all : (then : Run → Course) → Then then → Then (λ run. tellingAll run then)
+unfolding tellingAll nodesOf withBusy
+same-telling-all then t counts run = same-telling (nodesOf run - run .next) then t counts run
 
-  same-telling-all : (then : Run → Course) → Then then → Then (λ run. tellingAll run then)
-  unfolding tellingAll nodesOf withBusy
-  same-telling-all then t counts run = same-telling (nodesOf run - run .next) then t counts run
+-- the lines of the end
+same-closing : (n : ℕ) → Then (closing n)
+unfolding closing past allSaid lockLine lastLine locksOf recounted lockSays lineOf withBusy
+same-closing zero counts run =
+    same-says (lastLine run) (lastLine run) (withBusy counts run) run (withBusy counts (allSaid run)) (allSaid run)
+    (silence (withBusy counts (allSaid run))) (silence (allSaid run)) (λ count. refl) (same-silence counts (allSaid run))
+same-closing (suc n) counts run =
+    same-says (lockLine (withBusy counts run)) (lockLine run) (withBusy counts run) run (withBusy counts (past run)) (past run)
+    (closing n (withBusy counts (past run))) (closing n (past run)) (λ count. refl) (same-closing n counts (past run))
 
-  -- the lines of the end
-  same-closing : (n : ℕ) → Then (closing n)
-  unfolding closing past allSaid lockLine lastLine locksOf recounted lockSays lineOf withBusy
-  same-closing zero counts run =
-      same-says (lastLine run) (lastLine run) (withBusy counts run) run (withBusy counts (allSaid run)) (allSaid run)
-      (silence (withBusy counts (allSaid run))) (silence (allSaid run)) refl (same-silence counts (allSaid run))
-  same-closing (suc n) counts run =
-      same-says (lockLine (withBusy counts run)) (lockLine run) (withBusy counts run) run (withBusy counts (past run)) (past run)
-      (closing n (withBusy counts (past run))) (closing n (past run)) refl (same-closing n counts (past run))
+same-closing-all : Then closingAll
+unfolding closingAll locksOf withBusy
+same-closing-all counts run = same-closing (locksOf run - run .next) counts run
 
-  same-closing-all : Then closingAll
-  unfolding closingAll locksOf withBusy
-  same-closing-all counts run = same-closing (locksOf run - run .next) counts run
+same-end : (phase : Phase) → Then (λ run. closingAll (atEnd phase run))
+unfolding atEnd withBusy
+same-end phase counts run = same-closing-all counts (atEnd phase run)
 
-  same-end : (phase : Phase) → Then (λ run. closingAll (atEnd phase run))
-  unfolding atEnd withBusy
-  same-end phase counts run = same-closing-all counts (atEnd phase run)
+-- a step and then the rest, or the end before it
+same-step : (room : Bool) (then : Run → Course) → Then then → Then (λ run. cond room (tellingAll (oneStep run) then) (closingAll (atEnd Cut run)))
+same-step true then t counts run =
+    subst (λ next. OnlyBusyDiffers (tellingAll next then) (tellingAll (oneStep run) then)) (sym (step-other counts run)) (same-telling-all then t _ (oneStep run))
+same-step false then t counts run = same-end Cut counts run
 
-  -- a step and then the rest, or the end before it
-  same-step : (room : Bool) (then : Run → Course) → Then then → Then (λ run. cond room (tellingAll (oneStep run) then) (closingAll (atEnd Cut run)))
-  same-step true then t counts run =
-      ap (λ (next : Run). textBy count (tellingAll next then .lines)) (step-other counts run) ∙ same-telling-all then t _ (oneStep run)
-  same-step false then t counts run = same-end Cut counts run
+-- so many steps
+same-steps : (ceiling n : ℕ) (then : Run → Course) → Then then → Then (λ run. manySteps ceiling n run then)
+unfolding manySteps withBusy
+same-steps ceiling zero then t counts run = t counts run
+same-steps ceiling (suc n) then t counts run =
+    same-step (ltb (run .reached .steps) ceiling) (λ next. manySteps ceiling n next then) (same-steps ceiling n then t) counts run
 
-  -- so many steps
-  same-steps : (ceiling n : ℕ) (then : Run → Course) → Then then → Then (λ run. manySteps ceiling n run then)
-  unfolding manySteps withBusy
-  same-steps ceiling zero then t counts run = t counts run
-  same-steps ceiling (suc n) then t counts run =
-      same-step (ltb (run .reached .steps) ceiling) (λ next. manySteps ceiling n next then) (same-steps ceiling n then t) counts run
+-- the items
+same-items : (ceiling : ℕ) (l : List Item) → Then (items ceiling l)
+unfolding items stepsItem actionItem actionLine actionRefusal withBusy
+same-items ceiling [] counts run = same-end Ended counts run
+same-items ceiling (Steps n ∷ rest) counts run = same-steps ceiling n (items ceiling rest) (same-items ceiling rest) counts (stepsItem n run)
+same-items ceiling (Act action node lock ∷ rest) counts run =
+    let next = actionItem action node lock run in
+    same-says (actionLine action node lock run) (actionLine action node lock run) (withBusy counts run) run (withBusy counts next) next
+    (items ceiling rest (withBusy counts next)) (items ceiling rest next) (λ count. refl) (same-items ceiling rest counts next)
 
-  -- the items
-  same-items : (ceiling : ℕ) (l : List Item) → Then (items ceiling l)
-  unfolding items stepsItem actionItem actionLine actionRefusal withBusy
-  same-items ceiling [] counts run = same-end Ended counts run
-  same-items ceiling (Steps n ∷ rest) counts run = same-steps ceiling n (items ceiling rest) (same-items ceiling rest) counts (stepsItem n run)
-  same-items ceiling (Act action node lock ∷ rest) counts run =
-      let next = actionItem action node lock run in
-      same-says (actionLine action node lock run) (actionLine action node lock run) (withBusy counts run) run (withBusy counts next) next
-      (items ceiling rest (withBusy counts next)) (items ceiling rest next) refl (same-items ceiling rest counts next)
+same-on-items : (ceiling : ℕ) (schedule : List ℕ) → Then (onItems ceiling schedule)
+unfolding onItems withBusy
+same-on-items ceiling schedule counts run = same-items ceiling (itemsFrom schedule (run .at)) counts run
 
-  same-on-items : (ceiling : ℕ) (schedule : List ℕ) → Then (onItems ceiling schedule)
-  unfolding onItems withBusy
-  same-on-items ceiling schedule counts run = same-items ceiling (itemsFrom schedule (run .at)) counts run
+same-on-steps : (ceiling : ℕ) (schedule : List ℕ) → Then (onSteps ceiling schedule)
+unfolding onSteps withBusy
+same-on-steps ceiling schedule counts run = same-steps ceiling (run .left) (onItems ceiling schedule) (same-on-items ceiling schedule) counts run
 
-  same-on-steps : (ceiling : ℕ) (schedule : List ℕ) → Then (onSteps ceiling schedule)
-  unfolding onSteps withBusy
-  same-on-steps ceiling schedule counts run = same-steps ceiling (run .left) (onItems ceiling schedule) (same-on-items ceiling schedule) counts run
+-- by what the run is at
+same-in : (phase : Phase) (ceiling : ℕ) (schedule : List ℕ) → Then (courseIn phase ceiling schedule)
+unfolding courseIn working refusalLine allSaid withBusy
+same-in Items ceiling schedule counts run = same-telling-all (onSteps ceiling schedule) (same-on-steps ceiling schedule) counts run
+same-in Ended ceiling schedule counts run = same-closing-all counts run
+same-in Cut ceiling schedule counts run = same-closing-all counts run
+same-in (Refused number) ceiling schedule counts run =
+    same-says (refusalLine number run) (refusalLine number run) (withBusy counts run) run (withBusy counts (allSaid run)) (allSaid run)
+    (silence (withBusy counts (allSaid run))) (silence (allSaid run)) (λ count. refl) (same-silence counts (allSaid run))
 
-  -- by what the run is at
-  same-in : (phase : Phase) (ceiling : ℕ) (schedule : List ℕ) → Then (courseIn phase ceiling schedule)
-  unfolding courseIn working refusalLine allSaid withBusy
-  same-in Items ceiling schedule counts run = same-telling-all (onSteps ceiling schedule) (same-on-steps ceiling schedule) counts run
-  same-in Ended ceiling schedule counts run = same-closing-all counts run
-  same-in Cut ceiling schedule counts run = same-closing-all counts run
-  same-in (Refused number) ceiling schedule counts run =
-      same-says (refusalLine number run) (refusalLine number run) (withBusy counts run) run (withBusy counts (allSaid run)) (allSaid run)
-      (silence (withBusy counts (allSaid run))) (silence (allSaid run)) refl (same-silence counts (allSaid run))
-
-  -- all is said, or not
-  same-course : (over : Bool) (ceiling : ℕ) (schedule : List ℕ) → Then (λ run. cond over (silence run) (courseIn (run .phase) ceiling schedule run))
-  unfolding withBusy
-  same-course true ceiling schedule counts run = same-silence counts run
-  same-course false ceiling schedule counts run = same-in (run .phase) ceiling schedule counts run
+-- all is said, or not
+same-course : (over : Bool) (ceiling : ℕ) (schedule : List ℕ) → Then (λ run. cond over (silence run) (courseIn (run .phase) ceiling schedule run))
+unfolding withBusy
+same-course true ceiling schedule counts run = same-silence counts run
+same-course false ceiling schedule counts run = same-in (run .phase) ceiling schedule counts run
 
 pub only-lock-lines-tell-busy-steps : OnlyLockLinesTellBusySteps
 unfolding course withBusy
-only-lock-lines-tell-busy-steps ceiling schedule counts run count = same-course count (run .over) ceiling schedule counts run
+only-lock-lines-tell-busy-steps ceiling schedule counts run = same-course (run .over) ceiling schedule counts run

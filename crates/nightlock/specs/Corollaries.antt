@@ -11,7 +11,7 @@ use Rattle.ring.specs.declared.State.{State}
 use Rattle.ring.specs.Step.{stepping}
 use Rattle.nightfile.specs.File.{fileNumber, schedulePart}
 use Rattle.course.specs.declared.Run.{Run}
-use Rattle.course.specs.Whole.{itemsFrom, course}
+use Rattle.course.specs.Whole.{Course, itemsFrom, course}
 use Rattle.run.specs.Outcomes.{fileCourse, fileOutcome, fileText}
 use Rattle.onelock.specs.OneLock.{Item, reached, history, plain}
 use Rattle.nightlock.specs.NightLock.{planIn, itemsOf, PassesThrough, IsReached, Stands, EachSaid, reported}
@@ -61,11 +61,15 @@ RingFilesKeepTheirLines =
     (ceiling : ℕ) (file : List ℕ) → ((place : ℕ) → getD file place 0 < 256) → fileNumber file ≡ 0 → multiring (planIn file .rules) ≡ false
     → BusyStepsAre someHolds ceiling file
 
--- no other line tells of busy steps: a run with other busy counts, whatever they are, says the same but for the busy steps of its H lines
+-- two courses that differ in busy steps only: they say the same but for the busy steps of their H lines, and end the same but for their busy counts
+pub record OnlyBusyDiffers (one other : Course) : Type 0 where
+  pub text : (count : ℕ → ℕ → ℕ) → textBy count (one .lines) ≡ textBy count (other .lines)
+  pub end : one .end ≡ withBusy (one .end .reached .tally .busy) (other .end)
+
+-- busy counts reach nothing else: so it is of a run and the same run with other busy counts, whatever they are
 abbrev pub OnlyLockLinesTellBusySteps : Type 0
 OnlyLockLinesTellBusySteps =
-    (ceiling : ℕ) (schedule counts : List ℕ) (run : Run) (count : ℕ → ℕ → ℕ)
-    → textBy count (course ceiling schedule (withBusy counts run) .lines) ≡ textBy count (course ceiling schedule run .lines)
+    (ceiling : ℕ) (schedule counts : List ℕ) (run : Run) → OnlyBusyDiffers (course ceiling schedule (withBusy counts run)) (course ceiling schedule run)
 
 -- after every schedule a lock is busy exactly where its history gives it a holder: from its grant to its ending, which under multiring rules is the
 -- didv's going
