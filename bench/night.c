@@ -370,8 +370,8 @@ static bool read_plan(struct plan *plan, const uint8_t *body)
     return true;
 }
 
-/* The refusal's number, or 0 with the plan read. */
-static int read_file(struct plan *plan, const uint8_t *file, int length)
+/* The refusal's number, or 0 with the plan read. With 6 the place of the first bad item, counted from 0. */
+static int read_file(struct plan *plan, const uint8_t *file, int length, int *bad)
 {
     if (length < FILE_LEAST || length > FILE_MOST)
         return 1;
@@ -385,9 +385,11 @@ static int read_file(struct plan *plan, const uint8_t *file, int length)
         return 4;
     if (schedule_length % 3 != 0)
         return 5;
-    for (int place = 0; place < schedule_length; place += 3)
-        if (body[plan_length + place] > FORCE)
+    for (int place = 0; place < schedule_length / 3; place++)
+        if (body[plan_length + 3 * place] > FORCE) {
+            *bad = place;
             return 6;
+        }
     return 0;
 }
 
@@ -427,9 +429,10 @@ int main(void)
     static uint8_t file[FILE_MOST + 1];
     static struct run run;
     int length = (int)fread(file, 1, sizeof file, stdin);
-    int refused = read_file(&run.plan, file, length);
+    int bad = 0;
+    int refused = read_file(&run.plan, file, length, &bad);
     if (refused != 0) {
-        line(0, 'Q', refused, 0);
+        line(0, 'Q', refused, bad);
     } else {
         run.zero.car = token_car;
         const uint8_t *schedule = file + FILE_LEAST + pair(file + 4);

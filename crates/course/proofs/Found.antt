@@ -12,7 +12,7 @@ use Rattle.items.specs.declared.ItemAnswer.{ItemAnswer}
 use Rattle.items.specs.declared.ItemAnswer.the-variants.{NoMore, Found, LeftOver, Bad}
 use Rattle.items.specs.declared.Reading.{Reading}
 use Rattle.nightfile.specs.File.{byteAt}
-use Rattle.items.specs.Items.{itemOf, reading, readAt}
+use Rattle.items.specs.Items.{itemOf, placeAt, reading, readAt}
 use Rattle.course.specs.Whole.{andOthers, itemsWithin, itemsFrom}
 
 -- what is read at a place: no item, or an item that ends within the schedule
@@ -20,13 +20,13 @@ data Reads (long at : ℕ) (r : Reading) : Type 0 where
   none : ((others : List Item) → andOthers (r .answer) others ≡ []) → Reads long at r
   found : (item : Item) → r ≡ reading (Found item) (at + 3) → at + 3 ≤ long → Reads long at r
 
-reads-by : (long at : ℕ) (item : Item) (past short bad : Bool) → leb long at ≡ past → ltb (long - at) 3 ≡ short →
-    Reads long at (cond past (reading NoMore at) (cond short (reading LeftOver at) (cond bad (reading Bad at) (reading (Found item) (at + 3)))))
+reads-by : (long at place : ℕ) (item : Item) (past short bad : Bool) → leb long at ≡ past → ltb (long - at) 3 ≡ short →
+    Reads long at (cond past (reading NoMore at) (cond short (reading LeftOver at) (cond bad (reading (Bad place) at) (reading (Found item) (at + 3)))))
 unfolding andOthers reading
-reads-by long at item true short bad p s = none (λ others. refl)
-reads-by long at item false true bad p s = none (λ others. refl)
-reads-by long at item false false true p s = none (λ others. refl)
-reads-by long at item false false false p s =
+reads-by long at place item true short bad p s = none (λ others. refl)
+reads-by long at place item false true bad p s = none (λ others. refl)
+reads-by long at place item false false true p s = none (λ others. refl)
+reads-by long at place item false false false p s =
     let inside : at < long = leb-false long at p in
     let room : 3 ≤ long - at = ltb-false (long - at) 3 s in
     let fits : at + 3 ≤ long = omega arith in
@@ -34,7 +34,7 @@ reads-by long at item false false false p s =
 
 reads : (schedule : List ℕ) (at : ℕ) → Reads (length schedule) at (readAt schedule at)
 unfolding readAt
-reads schedule at = reads-by (length schedule) at (itemOf schedule at) (leb (length schedule) at) (ltb (length schedule - at) 3) (ltb 3 (byteAt schedule at)) refl refl
+reads schedule at = reads-by (length schedule) at (placeAt at) (itemOf schedule at) (leb (length schedule) at) (ltb (length schedule - at) 3) (ltb 3 (byteAt schedule at)) refl refl
 
 -- past the end there are no items
 none-past : (schedule : List ℕ) (at : ℕ) (others : List Item) → length schedule ≤ at → andOthers (readAt schedule at .answer) others ≡ []

@@ -22,7 +22,7 @@ steps-found NoMore e = absurd (true≢false (sym e))
 steps-found (Found (Steps n)) e = refl
 steps-found (Found (Act action node lock)) e = absurd (true≢false (sym e))
 steps-found LeftOver e = absurd (true≢false (sym e))
-steps-found Bad e = absurd (true≢false (sym e))
+steps-found (Bad place) e = absurd (true≢false (sym e))
 
 -- where there is neither an action nor steps, there is no item
 pub none-found : (answer : ItemAnswer) → isAction answer ≡ false → isSteps answer ≡ false → (others : List Item) → andOthers answer others ≡ []
@@ -31,7 +31,7 @@ none-found NoMore a s others = refl
 none-found (Found (Steps n)) a s others = absurd (true≢false s)
 none-found (Found (Act action node lock)) a s others = absurd (true≢false a)
 none-found LeftOver a s others = refl
-none-found Bad a s others = refl
+none-found (Bad place) a s others = refl
 
 -- so many steps to do, at a place
 unfoldable pub stepsTo : ℕ → ℕ → Run → Run

@@ -28,7 +28,7 @@ unfoldable pub isAction : ItemAnswer → Bool
 isAction NoMore = false
 isAction (Found item) = isAct item
 isAction LeftOver = false
-isAction Bad = false
+isAction (Bad place) = false
 
 -- whether it is an item of steps, and how many
 unfoldable pub stepsOf : Item → ℕ
@@ -39,13 +39,13 @@ unfoldable pub isSteps : ItemAnswer → Bool
 isSteps NoMore = false
 isSteps (Found item) = not (isAct item)
 isSteps LeftOver = false
-isSteps Bad = false
+isSteps (Bad place) = false
 
 unfoldable pub stepsFound : ItemAnswer → ℕ
 stepsFound NoMore = 0
 stepsFound (Found item) = stepsOf item
 stepsFound LeftOver = 0
-stepsFound Bad = 0
+stepsFound (Bad place) = 0
 
 -- what a run finds at its place, and the place behind it
 unfoldable pub aheadOf : Reading → Ahead
@@ -58,7 +58,7 @@ readyIn Items schedule run =
     cond (ltb (run .next) (nodesOf run)) (isEvent (eventHere run)) (eqb (run .left) 0 && isAction (answerHere schedule run))
 readyIn Ended schedule run = true
 readyIn Cut schedule run = true
-readyIn (Refused number) schedule run = true
+readyIn (Refused number place) schedule run = true
 
 unfoldable pub ready : List ℕ → Run → Bool
 ready schedule run = run .over || readyIn (run .phase) schedule run

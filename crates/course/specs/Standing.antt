@@ -11,7 +11,7 @@ use Rattle.ring.specs.Actions.{acting}
 use Rattle.ring.specs.Walk.{quiet}
 use Rattle.ring.specs.Step.{stepping}
 use Rattle.tally.specs.Tally.{emptyTally, stepTally}
-use Rattle.nightfile.specs.File.{fileNumber, planPart, planOf}
+use Rattle.nightfile.specs.File.{fileNumber, filePlace, planPart, planOf}
 use Rattle.course.specs.declared.Reached.{Reached}
 use Rattle.course.specs.declared.Run.{Run}
 use Rattle.course.specs.declared.Phase.{Phase}
@@ -24,7 +24,7 @@ nodesOf run = nodeCount (run .reached .state .plan)
 unfoldable pub locksOf : Run → ℕ
 locksOf run = run .reached .state .plan .locks
 
--- a run at its start: "A refused file gives only "0 Q number 0"."
+-- a run at its start: of a refused file with its number, and the place beside it
 unfoldable pub beginning : List ℕ → Run
 beginning file =
     record {
@@ -33,7 +33,7 @@ beginning file =
       left = 0;
       events = replicate nodePlaces quiet;
       next = 0;
-      phase = cond (eqb (fileNumber file) 0) Items (Refused (fileNumber file));
+      phase = cond (eqb (fileNumber file) 0) Items (Refused (fileNumber file) (filePlace file));
       over = false;
     }
 

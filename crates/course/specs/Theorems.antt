@@ -3,6 +3,7 @@ use Prim.Native.Nat.{ℕ}
 use mathlib.Core.Path.{_≡_}
 use mathlib.Core.Bool.{false}
 use Rattle.acts.specs.declared.Action.{Action}
+use Rattle.items.specs.Items.{placeAt}
 use Rattle.ring.specs.Sound.{sound}
 use Rattle.wording.specs.Wording.{refusedSays}
 use Rattle.course.specs.declared.Run.{Run}
@@ -13,7 +14,7 @@ use Rattle.course.specs.Wording.{actionLine}
 abbrev pub ActionsSayThirteen : Type 0
 ActionsSayThirteen =
     (action : Action) (node lock : ℕ) (run : Run) → sound (run .reached .state) ≡ false
-    → actionLine action node lock run ≡ refusedSays (run .reached .steps) 13 (run .at)
+    → actionLine action node lock run ≡ refusedSays (run .reached .steps) 13 (placeAt (run .at))
 
 -- and neither its actions nor its steps change the state
 abbrev pub ActionsLeaveTheState : Type 0

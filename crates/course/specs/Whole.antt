@@ -76,7 +76,7 @@ unfoldable pub andOthers : ItemAnswer → List Item → List Item
 andOthers NoMore others = []
 andOthers (Found item) others = item ∷ others
 andOthers LeftOver others = []
-andOthers Bad others = []
+andOthers (Bad place) others = []
 
 -- the items from a place on, until none is found: as many as so many bytes can hold
 unfoldable pub itemsWithin : ℕ → List ℕ → ℕ → List Item
@@ -107,7 +107,7 @@ unfoldable pub courseIn : Phase → ℕ → List ℕ → Run → Course
 courseIn Items ceiling schedule run = working ceiling schedule run
 courseIn Ended ceiling schedule run = closingAll run
 courseIn Cut ceiling schedule run = closingAll run
-courseIn (Refused number) ceiling schedule run = says (refusalLine number run) run (allSaid run) (silence (allSaid run))
+courseIn (Refused number place) ceiling schedule run = says (refusalLine number place run) run (allSaid run) (silence (allSaid run))
 
 -- the course of a run from where it stands, over a schedule and under a ceiling of steps
 unfoldable pub course : ℕ → List ℕ → Run → Course

@@ -4,6 +4,7 @@ use mathlib.Core.Bool.{Bool, true, false, cond, not}
 use lib.Dec.{eqb}
 use lib.ListN.{getD}
 use Rattle.acts.specs.declared.Action.{Action}
+use Rattle.items.specs.Items.{placeAt}
 use Rattle.turns.specs.declared.Event.{Event}
 use Rattle.turns.specs.Turn.{eventLetter}
 use Rattle.ring.specs.Actions.{acting}
@@ -31,12 +32,12 @@ eventLine run = eventSays (run .reached .steps) (run .next) (eventHere run)
 unfoldable pub actionRefusal : Action → ℕ → ℕ → Run → ℕ
 actionRefusal action node lock run = acting action (run .reached .state) node lock .number
 
--- an action's line: accepted, or refused with its number at the run's place
+-- an action's line: accepted, or refused with its number and the place of the item that the run is at
 unfoldable pub actionLine : Action → ℕ → ℕ → Run → Line
 actionLine action node lock run =
     cond (eqb (actionRefusal action node lock run) 0)
     (actionSays (run .reached .steps) action node lock)
-    (refusedSays (run .reached .steps) (actionRefusal action node lock run) (run .at))
+    (refusedSays (run .reached .steps) (actionRefusal action node lock run) (placeAt (run .at)))
 
 -- the line of the lock that is told of next
 unfoldable pub lockLine : Run → Line
@@ -47,7 +48,7 @@ unfoldable pub isCut : Phase → Bool
 isCut Items = false
 isCut Ended = false
 isCut Cut = true
-isCut (Refused number) = false
+isCut (Refused number place) = false
 
 -- the last line, with the sums over all locks
 unfoldable pub lastLine : Run → Line
@@ -55,5 +56,5 @@ lastLine run =
     lastSays (run .reached .steps) (isCut (run .phase)) (sumOf (run .reached .tally .grants) (locksOf run)) (sumOf (run .reached .tally .failed) (locksOf run))
 
 -- the line of a refused file
-unfoldable pub refusalLine : ℕ → Run → Line
-refusalLine number run = refusalSays (run .reached .steps) number
+unfoldable pub refusalLine : ℕ → ℕ → Run → Line
+refusalLine number place run = refusalSays (run .reached .steps) number place

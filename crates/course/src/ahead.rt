@@ -41,6 +41,6 @@ pub(crate) fn look_ahead(schedule: &[u8], at: usize) -> Ahead
             },
         },
         ItemAnswer::LeftOver => none,
-        ItemAnswer::Bad => none,
+        ItemAnswer::Bad(place) => none,
     }
 }

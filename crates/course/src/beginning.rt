@@ -5,12 +5,15 @@ ghost use lib.Dec.{eqb};
 ghost use Rattle.course.specs.declared.Phase.the-variants.{Items, Refused};
 use crate::Phase;
 
-// By the number of its file: at its items, or refused.
-pub(crate) fn first_phase(number: u8) -> Phase
-    ensures { λ r. ⌜ r ≡ cond (eqb number 0) Items (Refused number) ⌝ }
+// By the number of its file: at its items, or refused, with the place that is told beside the number.
+pub(crate) fn first_phase(number: u8, place: usize) -> Phase
+    ensures { λ r. ⌜ r ≡ cond (eqb number 0) Items (Refused number place) ⌝ }
 {
     if number == 0 {
         return Phase::Items;
     }
-    Phase::Refused(number)
+    Phase::Refused {
+        number: number,
+        place: place,
+    }
 }

@@ -18,12 +18,13 @@ pub struct Reached {
     pub steps: u64,
 }
 
-// What a run is at: its items; its end, after all steps or cut at the ceiling; or a refused file with its number.
+// What a run is at: its items; its end, after all steps or cut at the ceiling; or a refused file with its number and the place of
+// its first bad item, 0 where no item is the reason.
 pub enum Phase {
     Items,
     Ended,
     Cut,
-    Refused(u8),
+    Refused { number: u8, place: usize },
 }
 
 // A run under way: what it has reached, the place in the schedule, the steps left of the item before that place, the events of
@@ -42,7 +43,9 @@ pub struct Run {
 pub fn begin(file: &[u8]) -> Run
     ensures { λ r. ⌜ r ≡ beginning (now (file .entry)) ⌝ }
 {
-    let number = nightfile::file_number(nightfile::test_file(file));
+    let answer = nightfile::test_file(file);
+    let number = nightfile::file_number(answer);
+    let place = nightfile::file_place(answer);
     let plan = nightfile::read_plan(nightfile::plan_part(file));
     let started = State::start(plan);
     let state = started.state;
@@ -50,7 +53,7 @@ pub fn begin(file: &[u8]) -> Run
     let events = [Happening {
         event: Event::Nothing,
     }; NODES];
-    let phase = beginning::first_phase(number);
+    let phase = beginning::first_phase(number, place);
     Run {
         reached: Reached {
             state: state,

@@ -151,7 +151,7 @@ impl Run {
             Phase::Items => self.to_line(schedule, ceiling),
             Phase::Ended => self,
             Phase::Cut => self,
-            Phase::Refused(number) => self,
+            Phase::Refused { number, place } => self,
         }
     }
 }

@@ -1,4 +1,4 @@
-// The item reader over a lent slice and a place: no more, an item, bytes left over (5), or a first byte above 3 (6).
+// The item reader over a lent slice and a place: no more, an item, bytes left over (5), or a first byte above 3 (6) with the item's place.
 ghost use mathlib.Core.Path.{_≡_};
 ghost use Prim.Native.Nat.{_+_, _<_};
 ghost use lib.ListN.{length};
@@ -61,7 +61,8 @@ pub fn read_at(schedule: &[u8], at: usize) -> Reading
     }
     let kind = schedule[at];
     if 3 < kind {
-        return reading_of(ItemAnswer::Bad, at);
+        let place = crate::place_at(at);
+        return reading_of(ItemAnswer::Bad(place), at);
     }
     let item = item_at(schedule, at);
     reading_of(ItemAnswer::Found(item), at + 3)

@@ -1,6 +1,6 @@
 // The items of a schedule: what the item reader finds at a place, and the place afterwards.
 ghost use mathlib.Core.Path.{_≡_};
-ghost use Rattle.items.specs.Items.{itemAnswerNumber, readAt};
+ghost use Rattle.items.specs.Items.{placeAt, itemAnswerNumber, itemAnswerPlace, readAt};
 use acts::Action;
 
 mod held;
@@ -12,12 +12,13 @@ pub enum Item {
     Act { action: Action, node: u8, lock: u8 },
 }
 
-// What the item reader finds: no more items, an item, one or two bytes left over (5), or a first byte above 3 (6).
+// What the item reader finds: no more items, an item, one or two bytes left over (5), or a first byte above 3 (6), with the item's place
+// counted from 0.
 pub enum ItemAnswer {
     NoMore,
     Found(Item),
     LeftOver,
-    Bad,
+    Bad(usize),
 }
 
 // What was found, and the place afterwards.
@@ -45,8 +46,27 @@ pub fn item_number(answer: ItemAnswer) -> u8
         ItemAnswer::NoMore => 0,
         ItemAnswer::Found(item) => 0,
         ItemAnswer::LeftOver => 5,
-        ItemAnswer::Bad => 6,
+        ItemAnswer::Bad(place) => 6,
     }
+}
+
+// The place of the bad item that an item reader's answer tells, counted from 0; 0 where it tells none.
+pub fn item_place(answer: ItemAnswer) -> usize
+    ensures { λ r. ⌜ r ≡ itemAnswerPlace answer ⌝ }
+{
+    match answer {
+        ItemAnswer::NoMore => 0,
+        ItemAnswer::Found(item) => 0,
+        ItemAnswer::LeftOver => 0,
+        ItemAnswer::Bad(place) => place,
+    }
+}
+
+// Which item of a schedule has the byte at an offset, counted from 0: an item has three bytes.
+pub fn place_at(at: usize) -> usize
+    ensures { λ r. ⌜ r ≡ placeAt at ⌝ }
+{
+    at / 3
 }
 
 // What is read at a place of a schedule, and the place afterwards: through the reader that holds it, for callers that hold none.

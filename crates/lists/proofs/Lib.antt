@@ -1,3 +1,4 @@
 pub mod Laws
+pub mod First
 pub mod Tests
 pub mod Places

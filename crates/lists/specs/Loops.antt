@@ -1,6 +1,6 @@
 -- What is said of all places below a number: the definitions by which a loop is read.
 use Prim.Native.Nat.{ℕ, zero, suc, _+_}
-use mathlib.Core.Bool.{Bool, true, false, _&&_, _||_}
+use mathlib.Core.Bool.{Bool, true, false, cond, _&&_, _||_}
 
 -- it holds of each place below n
 unfoldable pub every : (ℕ → Bool) → ℕ → Bool
@@ -11,6 +11,11 @@ every f (suc n) = every f n && f n
 unfoldable pub some : (ℕ → Bool) → ℕ → Bool
 some f zero = false
 some f (suc n) = some f n || f n
+
+-- the first place below n of which it does not hold: it holds of each before that; n where it holds of each below n
+unfoldable pub firstNot : (ℕ → Bool) → ℕ → ℕ
+firstNot f zero = zero
+firstNot f (suc n) = cond (every f n) (cond (f n) (suc n) n) (firstNot f n)
 
 -- the sum over the places below n
 unfoldable pub total : (ℕ → ℕ) → ℕ → ℕ

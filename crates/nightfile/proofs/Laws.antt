@@ -1,6 +1,6 @@
 -- Laws of the night file: the values of a plan body while they are read, its two parts, and what an accepted file gives.
 use Prim.Native.Nat.{ℕ, zero, suc, _+_, _-_, _≤_, _<_}
-use mathlib.Core.Path.{_≡_, refl, _∙_}
+use mathlib.Core.Path.{_≡_, refl, ap, _∙_}
 use mathlib.Core.Bool.{Bool, true, false, not, _&&_, _||_}
 use mathlib.Core.List.{List, [], _∷_, _++_, append-nil}
 use native.Mathlib.Numerals.{add-one}
@@ -13,7 +13,8 @@ use borrow.Author.Tests.{eqb-true, ltb-false, not-false}
 use Rattle.lists.specs.Refusal.{refusedIf}
 use Rattle.lists.proofs.Laws.{and-right}
 use Rattle.plan.specs.Plan.{inRange}
-use Rattle.nightfile.specs.File.{byteAt, lengthWrong, entryAt, entryLength, scheduleStart, contentsRight, planBody, scheduleBody, planLengthWrong, planOf, scheduleNumber, bodiesNumber, fileNumber, ifAccepted, planPart, partAt}
+use Rattle.nightfile.specs.File.{byteAt, lengthWrong, entryAt, entryLength, scheduleStart, contentsRight, planBody, scheduleBody, planLengthWrong, planOf, scheduleNumber, bodiesNumber, fileNumber, Told, numberAndPlace, fileTold, filePlace, ifAccepted, planPart, partAt, fileAnswerNumber, fileAnswerPlace, fileAnswerTold}
+use Rattle.nightfile.specs.declared.FileAnswer.{FileAnswer}
 
 -- a byte past the end is 0, with zeros written there or not
 padded-at : (bytes : List ℕ) (n at : ℕ) → getD (bytes ++ replicate n 0) at 0 ≡ getD bytes at 0
@@ -62,11 +63,15 @@ start-most file e =
     let ends = and-right (eqb (byteAt file 0) 2 && entryAt file 1 1 11 && entryAt file 6 2 (scheduleStart file)) _ e in
     omega (arith, eqb-true (scheduleStart file + entryLength file 6) (length file) ends)
 
+-- where another number is given the test fails, and what comes later gives it
+pub passed-over : (test : Bool) (number later given : ℕ) → (number ≡ given → ⊥) → refusedIf test number later ≡ given → (test ≡ false) × (later ≡ given)
+unfolding refusedIf
+passed-over true number later given other e = absurd (other e)
+passed-over false number later given other e = (refl, e)
+
 -- a test that does not refuse: it fails, and what comes later does not refuse
 pub not-refused : (test : Bool) (number later : ℕ) → 0 < number → refusedIf test number later ≡ 0 → (test ≡ false) × (later ≡ 0)
-unfolding refusedIf
-not-refused true number later h e = absurd (omega arith)
-not-refused false number later h e = (refl, e)
+not-refused test number later h e = passed-over test number later 0 (λ same. omega arith) e
 
 neither : (a b : Bool) → (a || b) ≡ false → (a ≡ false) × (b ≡ false)
 neither true b e = (e, cc)
@@ -105,6 +110,15 @@ accepted file e =
       in-range = bodies .1;
       schedule = bodies .2;
     }
+
+-- what an answer tells of a file: its number, its place
+pub told-number : (answer : FileAnswer) (file : List ℕ) → fileAnswerTold answer ≡ fileTold file → fileAnswerNumber answer ≡ fileNumber file
+unfolding fileAnswerTold fileTold numberAndPlace
+told-number answer file e = ap (λ (t : Told). t .number) e
+
+pub told-place : (answer : FileAnswer) (file : List ℕ) → fileAnswerTold answer ≡ fileTold file → fileAnswerPlace answer ≡ filePlace file
+unfolding fileAnswerTold filePlace
+told-place answer file e = ap (λ (t : Told). t .place) e
 
 -- an accepted file shows its two bodies
 pub plan-shown : (file : List ℕ) → fileNumber file ≡ 0 → planPart file ≡ planBody file

@@ -1,10 +1,10 @@
--- 01, "The night file and its items": the file, its two bodies, the plan; and the numbers 1 to 6.
+-- 01, "The night file and its items": the file, its two bodies, the plan; the numbers 1 to 6, and with 6 where the first bad item is.
 use Prim.Native.Nat.{ℕ, _+_, _*_, _/_, _%_}
 use mathlib.Core.Bool.{Bool, cond, not, _&&_, _||_}
 use mathlib.Core.List.{List, [], _++_}
 use lib.Dec.{eqb, ltb, leb}
 use lib.ListN.{length, getD, take, drop, replicate}
-use Rattle.lists.specs.Loops.{every}
+use Rattle.lists.specs.Loops.{every, firstNot}
 use Rattle.lists.specs.Refusal.{refusedIf}
 use Rattle.plan.specs.declared.Plan.{Plan}
 use Rattle.plan.specs.Plan.{positionPlaces, inRange}
@@ -78,6 +78,10 @@ itemKindRight schedule index = leb (byteAt schedule (3 * index)) 3
 unfoldable pub itemKindsRight : List ℕ → Bool
 itemKindsRight schedule = every (itemKindRight schedule) (length schedule / 3)
 
+-- 02, item 3, "the place of the first bad item, counted from 0": all items before it are right; the number of whole items where none is bad
+unfoldable pub firstBadItem : List ℕ → ℕ
+firstBadItem schedule = firstNot (itemKindRight schedule) (length schedule / 3)
+
 -- "For a file, 1 to 6: the lowest that applies"; 0: none
 unfoldable pub scheduleNumber : List ℕ → ℕ
 scheduleNumber schedule = refusedIf (bytesLeftOver schedule) 5 (refusedIf (not (itemKindsRight schedule)) 6 0)
@@ -89,6 +93,20 @@ bodiesNumber plan schedule =
 unfoldable pub fileNumber : List ℕ → ℕ
 fileNumber file =
     refusedIf (lengthWrong file) 1 (refusedIf (not (contentsRight file)) 2 (bodiesNumber (planBody file) (scheduleBody file)))
+
+-- 02, item 3: what is told of a file, its number and a place beside it: "that place for 6", else 0
+pub record Told : Type 0 where
+  pub number : ℕ
+  pub place : ℕ
+
+unfoldable pub numberAndPlace : ℕ → List ℕ → Told
+numberAndPlace number schedule = record { number = number; place = cond (eqb number 6) (firstBadItem schedule) 0 }
+
+unfoldable pub fileTold : List ℕ → Told
+fileTold file = numberAndPlace (fileNumber file) (scheduleBody file)
+
+unfoldable pub filePlace : List ℕ → ℕ
+filePlace file = fileTold file .place
 
 -- "When none of the numbers 1 to 6 below applies the two bodies are shown"; "an empty part stands for each body"
 unfoldable pub ifAccepted : List ℕ → List ℕ → List ℕ
@@ -105,7 +123,7 @@ schedulePart file = ifAccepted file (scheduleBody file)
 unfoldable pub partAt : ℕ × ℕ → List ℕ → ℕ → ℕ × ℕ
 partAt place file start = (place .0, place .1 + cond (eqb (fileNumber file) 0) start 0)
 
--- the number of an answer
+-- an answer's number, the place that it tells (0: none), and both
 unfoldable pub fileAnswerNumber : FileAnswer → ℕ
 fileAnswerNumber Accepted = 0
 fileAnswerNumber WrongLength = 1
@@ -113,4 +131,16 @@ fileAnswerNumber WrongContents = 2
 fileAnswerNumber WrongPlanLength = 3
 fileAnswerNumber PlanOutOfRange = 4
 fileAnswerNumber BytesLeftOver = 5
-fileAnswerNumber BadItem = 6
+fileAnswerNumber (BadItem place) = 6
+
+unfoldable pub fileAnswerPlace : FileAnswer → ℕ
+fileAnswerPlace Accepted = 0
+fileAnswerPlace WrongLength = 0
+fileAnswerPlace WrongContents = 0
+fileAnswerPlace WrongPlanLength = 0
+fileAnswerPlace PlanOutOfRange = 0
+fileAnswerPlace BytesLeftOver = 0
+fileAnswerPlace (BadItem place) = place
+
+unfoldable pub fileAnswerTold : FileAnswer → Told
+fileAnswerTold answer = record { number = fileAnswerNumber answer; place = fileAnswerPlace answer }

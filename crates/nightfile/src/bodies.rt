@@ -1,6 +1,6 @@
-// The two bodies of a file: the plan's length (3), its values (4), the schedule's length (5) and its items' kinds (6).
+// The two bodies of a file: the plan's length (3), its values (4), the schedule's length (5) and its first bad item (6).
 ghost use mathlib.Core.Path.{_≡_};
-ghost use Rattle.nightfile.specs.File.{planLengthWrong, planValues, itemKindsRight, scheduleNumber, bodiesNumber, fileAnswerNumber};
+ghost use Rattle.nightfile.specs.File.{planLengthWrong, planValues, firstBadItem, scheduleNumber, bodiesNumber, numberAndPlace, fileAnswerTold};
 use crate::FileAnswer;
 use plan::POSITIONS;
 
@@ -28,38 +28,45 @@ pub fn plan_values(body: &[u8]) -> [u8; POSITIONS]
     values
 }
 
-// Whether no whole item's first byte is above 3.
-fn item_kinds_right(schedule: &[u8]) -> bool
-    ensures { λ r. ⌜ r ≡ itemKindsRight (now (schedule .entry)) ⌝ }
+// The place of the first whole item whose first byte is above 3, counted from 0; the number of whole items where there is none.
+// The items before `first` are to be looked at: none any more, once one is found.
+fn first_bad_item(schedule: &[u8]) -> usize
+    ensures { λ r. ⌜ r ≡ firstBadItem (now (schedule .entry)) ⌝ }
 {
     let items = schedule.len() / 3;
+    let mut first = items;
+    let mut at = 0;
     let mut i = 0;
-    while i < items {
-        if schedule[3 * i] <= 3 {
+    while i < first {
+        if schedule[at] <= 3 {
+            at += 3;
             i += 1;
         } else {
-            return false;
+            first = i;
+            at += 3;
+            i += 1;
         }
     }
-    true
+    first
 }
 
 // 5 and 6, by the schedule.
 fn schedule_answer(schedule: &[u8]) -> FileAnswer
-    ensures { λ r. ⌜ fileAnswerNumber r ≡ scheduleNumber (now (schedule .entry)) ⌝ }
+    ensures { λ r. ⌜ fileAnswerTold r ≡ numberAndPlace (scheduleNumber (now (schedule .entry))) (now (schedule .entry)) ⌝ }
 {
     if schedule.len() % 3 == 0 {
-        if item_kinds_right(schedule) {
-            return FileAnswer::Accepted;
+        let place = first_bad_item(schedule);
+        if place < schedule.len() / 3 {
+            return FileAnswer::BadItem(place);
         }
-        return FileAnswer::BadItem;
+        return FileAnswer::Accepted;
     }
     FileAnswer::BytesLeftOver
 }
 
 // 3 to 6, by the two bodies.
 pub fn answer(body: &[u8], schedule: &[u8]) -> FileAnswer
-    ensures { λ r. ⌜ fileAnswerNumber r ≡ bodiesNumber (now (body .entry)) (now (schedule .entry)) ⌝ }
+    ensures { λ r. ⌜ fileAnswerTold r ≡ numberAndPlace (bodiesNumber (now (body .entry)) (now (schedule .entry))) (now (schedule .entry)) ⌝ }
 {
     if plan_length_wrong(body) {
         return FileAnswer::WrongPlanLength;

@@ -1,12 +1,12 @@
 // The night file: whether it is accepted or which of 1 to 6 it is refused with, its two parts and the plan.
 ghost use mathlib.Core.Path.{_≡_};
-ghost use Rattle.nightfile.specs.File.{twoAt, fileNumber, fileAnswerNumber, planPart, schedulePart, scheduleStart, partAt, planOf};
+ghost use Rattle.nightfile.specs.File.{twoAt, fileTold, fileAnswerNumber, fileAnswerPlace, fileAnswerTold, planPart, schedulePart, scheduleStart, partAt, planOf};
 use plan::Plan;
 
 mod bodies;
 mod contents;
 
-// The answer to a file: accepted, or 1 to 6.
+// The answer to a file: accepted, or 1 to 6; with 6 the place of the first bad item, counted from 0.
 pub enum FileAnswer {
     Accepted,
     WrongLength,
@@ -14,7 +14,7 @@ pub enum FileAnswer {
     WrongPlanLength,
     PlanOutOfRange,
     BytesLeftOver,
-    BadItem,
+    BadItem(usize),
 }
 
 // The number of an answer to a file in 01; 0: accepted.
@@ -28,7 +28,22 @@ pub fn file_number(answer: FileAnswer) -> u8
         FileAnswer::WrongPlanLength => 3,
         FileAnswer::PlanOutOfRange => 4,
         FileAnswer::BytesLeftOver => 5,
-        FileAnswer::BadItem => 6,
+        FileAnswer::BadItem(place) => 6,
+    }
+}
+
+// The place of the first bad item that an answer to a file tells, counted from 0; 0 where it tells none.
+pub fn file_place(answer: FileAnswer) -> usize
+    ensures { λ r. ⌜ r ≡ fileAnswerPlace answer ⌝ }
+{
+    match answer {
+        FileAnswer::Accepted => 0,
+        FileAnswer::WrongLength => 0,
+        FileAnswer::WrongContents => 0,
+        FileAnswer::WrongPlanLength => 0,
+        FileAnswer::PlanOutOfRange => 0,
+        FileAnswer::BytesLeftOver => 0,
+        FileAnswer::BadItem(place) => place,
     }
 }
 
@@ -44,9 +59,9 @@ pub fn two_at(bytes: &[u8], at: usize) -> u16
     low as u16 + 256 * (high as u16)
 }
 
-// Whether a file is accepted, or the lowest of 1 to 6 that applies.
+// Whether a file is accepted, or the lowest of 1 to 6 that applies; with 6 the place of the first bad item.
 pub fn test_file(file: &[u8]) -> FileAnswer
-    ensures { λ r. ⌜ fileAnswerNumber r ≡ fileNumber (now (file .entry)) ⌝ }
+    ensures { λ r. ⌜ fileAnswerTold r ≡ fileTold (now (file .entry)) ⌝ }
 {
     if file.len() < 11 {
         return FileAnswer::WrongLength;

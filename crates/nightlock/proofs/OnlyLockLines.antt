@@ -163,8 +163,8 @@ unfolding courseIn working refusalLine allSaid withBusy
 same-in Items ceiling schedule counts run = same-telling-all (onSteps ceiling schedule) (same-on-steps ceiling schedule) counts run
 same-in Ended ceiling schedule counts run = same-closing-all counts run
 same-in Cut ceiling schedule counts run = same-closing-all counts run
-same-in (Refused number) ceiling schedule counts run =
-    same-says (refusalLine number run) (refusalLine number run) (withBusy counts run) run (withBusy counts (allSaid run)) (allSaid run)
+same-in (Refused number place) ceiling schedule counts run =
+    same-says (refusalLine number place run) (refusalLine number place run) (withBusy counts run) run (withBusy counts (allSaid run)) (allSaid run)
     (silence (withBusy counts (allSaid run))) (silence (allSaid run)) (λ count. refl) (same-silence counts (allSaid run))
 
 -- all is said, or not

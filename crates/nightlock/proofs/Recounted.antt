@@ -9,6 +9,7 @@ use Rattle.acts.specs.declared.Action.the-variants.{Take, Release, Force}
 use Rattle.turns.specs.declared.Event.{Event}
 use Rattle.turns.specs.declared.Event.the-variants.{Nothing, Granted, Failed, Lost, Back, Sent}
 use Rattle.turns.specs.Turn.{eventLetter, eventLock}
+use Rattle.items.specs.Items.{placeAt}
 use Rattle.wording.specs.Wording.{text, lineOf, actionLetter, actionSays, refusedSays, eventSays, lockSays, endLetter, lastSays}
 use Rattle.course.specs.declared.Run.{Run}
 use Rattle.course.specs.Wording.{eventHere, isCut, eventLine, actionRefusal, actionLine, lastLine}
@@ -48,8 +49,8 @@ module _ (count : ℕ → ℕ → ℕ) where
   action-recounted action node lock run = go (eqb (actionRefusal action node lock run) 0)
     where
       go : (accepted : Bool)
-          → recounted count (cond accepted (actionSays (run .reached .steps) action node lock) (refusedSays (run .reached .steps) (actionRefusal action node lock run) (run .at)))
-          ≡ cond accepted (actionSays (run .reached .steps) action node lock) (refusedSays (run .reached .steps) (actionRefusal action node lock run) (run .at))
+          → recounted count (cond accepted (actionSays (run .reached .steps) action node lock) (refusedSays (run .reached .steps) (actionRefusal action node lock run) (placeAt (run .at))))
+          ≡ cond accepted (actionSays (run .reached .steps) action node lock) (refusedSays (run .reached .steps) (actionRefusal action node lock run) (placeAt (run .at)))
       go true = action-same (run .reached .steps) action node lock
       go false = refl
 

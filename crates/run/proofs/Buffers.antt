@@ -67,7 +67,7 @@ at-item ceiling schedule nodes start run (Found (Act action node lock)) w again 
     let a = at-action ceiling schedule nodes start run w told left (ap isAction e) in next run (a .0) (a .1)
 at-item ceiling schedule nodes start run LeftOver w again told left e =
     at-none ceiling schedule nodes start run w told left (λ others. ap (λ (a : ItemAnswer). andOthers a others) e)
-at-item ceiling schedule nodes start run Bad w again told left e =
+at-item ceiling schedule nodes start run (Bad place) w again told left e =
     at-none ceiling schedule nodes start run w told left (λ others. ap (λ (a : ItemAnswer). andOthers a others) e)
 
 at-left : (ceiling : ℕ) (schedule : List ℕ) (nodes : ℕ) (start run : Run) (none : Bool) → Way ceiling schedule nodes start run → Again ceiling schedule nodes start run
@@ -97,7 +97,7 @@ next-in ceiling schedule run Items o p =
     within (suc (toGo schedule (nodesOf run) run)) ceiling schedule (nodesOf run) run run (sets-out ceiling schedule (nodesOf run) run o p refl) q
 next-in ceiling schedule run Ended o p = next run refl (simp (o, p))
 next-in ceiling schedule run Cut o p = next run refl (simp (o, p))
-next-in ceiling schedule run (Refused number) o p = next run refl (simp (o, p))
+next-in ceiling schedule run (Refused number place) o p = next run refl (simp (o, p))
 
 next-by : (ceiling : ℕ) (schedule : List ℕ) (run : Run) (over : Bool) → run .over ≡ over → Next ceiling schedule run
 unfolding ready

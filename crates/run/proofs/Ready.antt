@@ -47,7 +47,7 @@ unfolding isAction answerSaying
 answer-goes ceiling schedule run NoMore i told left found e = absurd (not-so e)
 answer-goes ceiling schedule run (Found item) i told left found e = act-goes ceiling schedule run item i told left found e
 answer-goes ceiling schedule run LeftOver i told left found e = absurd (not-so e)
-answer-goes ceiling schedule run Bad i told left found e = absurd (not-so e)
+answer-goes ceiling schedule run (Bad place) i told left found e = absurd (not-so e)
 
 -- at an event, or an action
 items-go : (ceiling : ℕ) (schedule : List ℕ) (run : Run) (below : Bool) → AtItems run → ltb (run .next) (nodesOf run) ≡ below
@@ -104,10 +104,10 @@ past-phase : (run : Run) (phase : Phase) → run .phase ≡ phase → past run .
 unfolding past
 past-phase run phase p = p
 
-refused-goes : (ceiling : ℕ) (schedule : List ℕ) (run : Run) (number : ℕ) → run .over ≡ false → run .phase ≡ Refused number
-    → course ceiling schedule run ≡ says (refusalLine number run) run (allSaid run) (silence (allSaid run))
+refused-goes : (ceiling : ℕ) (schedule : List ℕ) (run : Run) (number place : ℕ) → run .over ≡ false → run .phase ≡ Refused number place
+    → course ceiling schedule run ≡ says (refusalLine number place run) run (allSaid run) (silence (allSaid run))
 unfolding course courseIn
-refused-goes ceiling schedule run number o p = simp (o, p)
+refused-goes ceiling schedule run number place o p = simp (o, p)
 
 -- by what the run is at
 pub goes-in : (ceiling : ℕ) (schedule : List ℕ) (run : Run) (phase : Phase) → run .over ≡ false → run .phase ≡ phase → readyIn phase schedule run ≡ true
@@ -116,8 +116,8 @@ unfolding readyIn sayingIn endSaying saying
 goes-in ceiling schedule run Items o p e = items-go ceiling schedule run (ltb (run .next) (nodesOf run)) (record { not-over = o; at-items = p }) refl e
 goes-in ceiling schedule run Ended o p e = end-goes ceiling schedule run (ltb (run .next) (locksOf run)) (ended-closes ceiling schedule run o p) (ended-closes ceiling schedule (past run) (past-open run o) (past-phase run Ended p)) refl
 goes-in ceiling schedule run Cut o p e = end-goes ceiling schedule run (ltb (run .next) (locksOf run)) (cut-closes ceiling schedule run o p) (cut-closes ceiling schedule (past run) (past-open run o) (past-phase run Cut p)) refl
-goes-in ceiling schedule run (Refused number) o p e =
-    refused-goes ceiling schedule run number o p ∙ ap (says (refusalLine number run) run (allSaid run)) (sym (said-silent ceiling schedule run))
+goes-in ceiling schedule run (Refused number place) o p e =
+    refused-goes ceiling schedule run number place o p ∙ ap (says (refusalLine number place run) run (allSaid run)) (sym (said-silent ceiling schedule run))
 
 -- a run that is ready, and not over
 pub ready-goes : (ceiling : ℕ) (schedule : List ℕ) (run : Run) → ready schedule run ≡ true → run .over ≡ false → Goes ceiling schedule run (sayingNow schedule run)

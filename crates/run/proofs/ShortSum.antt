@@ -13,7 +13,7 @@ use Rattle.items.specs.declared.ItemAnswer.{ItemAnswer}
 use Rattle.items.specs.declared.ItemAnswer.the-variants.{NoMore, Found, LeftOver, Bad}
 use Rattle.nightfile.specs.File.{byteAt, twoAt, fileNumber, scheduleStart, scheduleBody, ifAccepted, schedulePart}
 use Rattle.nightfile.proofs.Laws.{accepted}
-use Rattle.items.specs.Items.{actionOf, itemOf, reading, readAt}
+use Rattle.items.specs.Items.{actionOf, itemOf, placeAt, reading, readAt}
 use Rattle.course.specs.Whole.{andOthers, itemsWithin, itemsFrom, stepsIn}
 use Rattle.course.specs.Ready.{stepsOf, stepsFound}
 use Rattle.course.proofs.Found.{found-moves}
@@ -31,7 +31,7 @@ module _ (schedule : List ℕ) (bytes : (place : ℕ) → getD schedule place 0 
   found-most at = go (leb (length schedule) at) (ltb (length schedule - at) 3) (ltb 3 (byteAt schedule at)) (eqb (byteAt schedule at) 0)
     where
       go : (past short bad steps : Bool)
-          → stepsFound (cond past (reading NoMore at) (cond short (reading LeftOver at) (cond bad (reading Bad at)
+          → stepsFound (cond past (reading NoMore at) (cond short (reading LeftOver at) (cond bad (reading (Bad (placeAt at)) at)
           (reading (Found (cond steps (Steps (twoAt schedule (at + 1))) (Act (actionOf (byteAt schedule at)) (byteAt schedule (at + 1)) (byteAt schedule (at + 2))))) (at + 3)))) .answer)
           ≤ 65535
       go true short bad steps = omega arith
@@ -54,7 +54,7 @@ module _ (schedule : List ℕ) (bytes : (place : ℕ) → getD schedule place 0 
       let moves = found-moves schedule at (Act action node lock) e in
       omega (arith, moves .0, moves .1, rest)
   next-most n at LeftOver e rest = omega arith
-  next-most n at Bad e rest = omega arith
+  next-most n at (Bad place) e rest = omega arith
 
   items-most : (n at : ℕ) → 3 * stepsIn (itemsWithin n schedule at) ≤ 65535 * (length schedule - at)
   unfolding itemsWithin stepsIn

@@ -33,7 +33,7 @@ unfoldable pub answerSaying : ItemAnswer → Run → Saying
 answerSaying NoMore run = saying noLine run
 answerSaying (Found item) run = actSaying item run
 answerSaying LeftOver run = saying noLine run
-answerSaying Bad run = saying noLine run
+answerSaying (Bad place) run = saying noLine run
 
 -- a lock's line, or the last one
 unfoldable pub endSaying : Run → Saying
@@ -45,7 +45,7 @@ sayingIn Items schedule run =
     cond (ltb (run .next) (nodesOf run)) (saying (eventLine run) (past run)) (answerSaying (answerHere schedule run) run)
 sayingIn Ended schedule run = endSaying run
 sayingIn Cut schedule run = endSaying run
-sayingIn (Refused number) schedule run = saying (refusalLine number run) (allSaid run)
+sayingIn (Refused number place) schedule run = saying (refusalLine number place run) (allSaid run)
 
 unfoldable pub sayingNow : List ℕ → Run → Saying
 sayingNow schedule run = sayingIn (run .phase) schedule run

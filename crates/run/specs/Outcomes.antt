@@ -17,13 +17,21 @@ unfoldable pub refusalOf : Phase → ℕ
 refusalOf Items = 0
 refusalOf Ended = 0
 refusalOf Cut = 0
-refusalOf (Refused number) = number
+refusalOf (Refused number place) = number
+
+-- 02, item 3: the place that is told beside that number; 0: none
+unfoldable pub placeOf : Phase → ℕ
+placeOf Items = 0
+placeOf Ended = 0
+placeOf Cut = 0
+placeOf (Refused number place) = place
 
 -- the numbers of a run where it stands
 unfoldable pub outcomeOf : Run → Outcome
 outcomeOf run =
     record {
       refusal = refusalOf (run .phase);
+      place = placeOf (run .phase);
       cut = isCut (run .phase);
       steps = run .reached .steps;
       busy = run .reached .tally .busy;

@@ -5,7 +5,8 @@ use mathlib.Core.Bool.{true}
 use mathlib.Core.List.{List, _++_}
 use lib.Dec.{ltb}
 use lib.ListN.{length, getD, take}
-use Rattle.nightfile.specs.File.{fileNumber, schedulePart}
+use Rattle.nightfile.specs.File.{scheduleBody, fileNumber, filePlace, schedulePart}
+use Rattle.nightfile.specs.Theorems.{IsFirstBad}
 use Rattle.lines.specs.Line.{line}
 use Rattle.course.specs.declared.Run.{Run}
 use Rattle.course.specs.Standing.{nodesOf, beginning}
@@ -23,13 +24,33 @@ abbrev pub CutAboveTheCeiling : Type 0
 CutAboveTheCeiling =
     (ceiling : ℕ) (file : List ℕ) → fileNumber file ≡ 0 → fileOutcome ceiling file .cut ≡ ltb ceiling (scheduleSum (schedulePart file))
 
--- "A refused file gives only "0 Q number 0"."
-abbrev pub OnlyTheNumber : Type 0
-OnlyTheNumber = (ceiling : ℕ) (file : List ℕ) → (fileNumber file ≡ 0 → ⊥) → fileText ceiling file ≡ line 0 81 (fileNumber file) 0
+-- "A refused file gives only "0 Q number 0"."; 02, item 3: "The Q line's last number becomes that place for 6"
+abbrev pub OnlyTheNumberAndPlace : Type 0
+OnlyTheNumberAndPlace =
+    (ceiling : ℕ) (file : List ℕ) → (fileNumber file ≡ 0 → ⊥) → fileText ceiling file ≡ line 0 81 (fileNumber file) (filePlace file)
 
--- the result has the file's number, 0 where the file is accepted
+-- the result has the file's number, 0 where the file is accepted, and its place, 0 where none is told
 abbrev pub TheNumberInTheResult : Type 0
 TheNumberInTheResult = (ceiling : ℕ) (file : List ℕ) → fileOutcome ceiling file .refusal ≡ fileNumber file
+
+abbrev pub ThePlaceInTheResult : Type 0
+ThePlaceInTheResult = (ceiling : ℕ) (file : List ℕ) → fileOutcome ceiling file .place ≡ filePlace file
+
+-- so for 6 the one line and the result name the first bad item of the file's schedule
+pub record NamesTheFirstBad (ceiling : ℕ) (file : List ℕ) : Type 0 where
+  pub place : ℕ
+  pub first : IsFirstBad (scheduleBody file) place
+  pub text : fileText ceiling file ≡ line 0 81 6 place
+  pub result : fileOutcome ceiling file .place ≡ place
+
+abbrev pub SixNamesTheFirstBad : Type 0
+SixNamesTheFirstBad = (ceiling : ℕ) (file : List ℕ) → fileNumber file ≡ 6 → NamesTheFirstBad ceiling file
+
+-- "and stays 0 for 1 to 5"
+abbrev pub OthersStay0 : Type 0
+OthersStay0 =
+    (ceiling : ℕ) (file : List ℕ) → (fileNumber file ≡ 0 → ⊥) → (fileNumber file ≡ 6 → ⊥)
+    → fileText ceiling file ≡ line 0 81 (fileNumber file) 0
 
 -- buffers of any sizes, filled one after the other from any run: what they hold and what is still to be said are the run's lines
 abbrev pub HeldAndStillToSay : Type 0

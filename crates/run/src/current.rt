@@ -6,6 +6,7 @@ ghost use Prim.Native.Nat.{_+_, _/_, _<_};
 ghost use lib.ListN.{getD};
 ghost use Rattle.course.specs.declared.Phase.the-variants.{Items};
 ghost use Rattle.course.specs.Standing.{past, actionItem, allSaid};
+ghost use Rattle.items.specs.Items.{placeAt};
 ghost use Rattle.wording.specs.Wording.{actionSays, refusedSays};
 ghost use Rattle.course.specs.Wording.{isCut, eventHere, eventLine, actionLine, lockLine, lastLine, refusalLine};
 ghost use Rattle.course.specs.Ready.{answerHere};
@@ -29,7 +30,7 @@ pub(crate) fn is_cut(phase: Phase) -> bool
         Phase::Items => false,
         Phase::Ended => false,
         Phase::Cut => true,
-        Phase::Refused(_) => false,
+        Phase::Refused { number, place } => false,
     }
 }
 
@@ -87,12 +88,12 @@ fn event_saying(run: Run) -> Saying
 
 // The line of an action that had this number, 0 where it was accepted, of the item that starts at this byte.
 fn action_line(steps: u64, at: usize, action: Action, node: u8, lock: u8, number: u8) -> Line
-    ensures { λ r. ⌜ r ≡ cond (eqb number 0) (actionSays steps action node lock) (refusedSays steps number at) ⌝ }
+    ensures { λ r. ⌜ r ≡ cond (eqb number 0) (actionSays steps action node lock) (refusedSays steps number (placeAt at)) ⌝ }
 {
     if number == 0 {
         return wording::action_line(steps, action, node, lock);
     }
-    wording::refused_line(steps, number, at)
+    wording::refused_line(steps, number, items::place_at(at))
 }
 
 // An action's line, and the run at the place past it.
@@ -158,7 +159,7 @@ fn answer_saying(run: Run, schedule: &[u8]) -> Saying
         ItemAnswer::NoMore => no_saying(run),
         ItemAnswer::Found(item) => item_saying(run, item, reading.at),
         ItemAnswer::LeftOver => no_saying(run),
-        ItemAnswer::Bad => no_saying(run),
+        ItemAnswer::Bad(place) => no_saying(run),
     }
 }
 
@@ -209,10 +210,10 @@ fn end_saying(run: Run) -> Saying
 }
 
 // The line of a refused file.
-fn refusal_saying(run: Run, number: u8) -> Saying
-    ensures { λ r. ⌜ r ≡ saying (refusalLine number run) (allSaid run) ⌝ }
+fn refusal_saying(run: Run, number: u8, place: usize) -> Saying
+    ensures { λ r. ⌜ r ≡ saying (refusalLine number place run) (allSaid run) ⌝ }
 {
-    let line = wording::refusal_line(run.reached.steps, number);
+    let line = wording::refusal_line(run.reached.steps, number, place);
     let after = all_said(run);
     Saying {
         line: line,
@@ -239,6 +240,6 @@ pub(crate) fn say(run: Run, schedule: &[u8]) -> Saying
         Phase::Items => items_saying(run, schedule),
         Phase::Ended => end_saying(run),
         Phase::Cut => end_saying(run),
-        Phase::Refused(number) => refusal_saying(run, number),
+        Phase::Refused { number, place } => refusal_saying(run, number, place),
     }
 }

@@ -27,10 +27,11 @@ pub struct Filled {
     pub used: usize,
 }
 
-// The result of a run: the number of a refused file or 0, whether it was cut at the ceiling, the steps done, the busy steps of
-// each lock, all grants and all N events.
+// The result of a run: the number of a refused file or 0, with 6 the place of the first bad item (else 0), whether it was cut at
+// the ceiling, the steps done, the busy steps of each lock, all grants and all N events.
 pub struct Outcome {
     pub refusal: u8,
+    pub place: usize,
     pub cut: bool,
     pub steps: u64,
     pub busy: [u64; LOCKS],

@@ -1,7 +1,7 @@
 // The result of a run: a file run to its end under a ceiling.
 ghost use mathlib.Core.Path.{_≡_};
 ghost use Rattle.course.specs.Whole.{course};
-ghost use Rattle.run.specs.Outcomes.{refusalOf, outcomeOf};
+ghost use Rattle.run.specs.Outcomes.{refusalOf, placeOf, outcomeOf};
 use crate::Outcome;
 use crate::current;
 use course::Phase;
@@ -15,7 +15,19 @@ fn refusal_of(phase: Phase) -> u8
         Phase::Items => 0,
         Phase::Ended => 0,
         Phase::Cut => 0,
-        Phase::Refused(number) => number,
+        Phase::Refused { number, place } => number,
+    }
+}
+
+// The place that is told beside that number; 0: none.
+fn place_of(phase: Phase) -> usize
+    ensures { λ r. ⌜ r ≡ placeOf phase ⌝ }
+{
+    match phase {
+        Phase::Items => 0,
+        Phase::Ended => 0,
+        Phase::Cut => 0,
+        Phase::Refused { number, place } => place,
     }
 }
 
@@ -45,6 +57,7 @@ pub(crate) fn numbers(run: Run) -> Outcome
     let failed = run.reached.tally.failed;
     Outcome {
         refusal: refusal_of(phase),
+        place: place_of(phase),
         cut: current::is_cut(phase),
         steps: run.reached.steps,
         busy: busy,

@@ -1,4 +1,4 @@
--- What a promise equates tells answers apart: the numbers of the enums, and what start, an action and a step tell.
+-- What a promise equates tells answers apart: the numbers of the enums, and what a file's answer, a line's, start, an action and a step tell.
 use Prim.Native.Nat.{ℕ, _-_}
 use mathlib.Core.Path.{_≡_, refl, sym, ap, _∙_}
 use mathlib.Core.List.{[], _∷_}
@@ -20,7 +20,7 @@ use Rattle.ring.specs.Actions.{actionTold}
 use Rattle.ring.specs.Step.{stepAnswerNumber, stepTold}
 use Rattle.nightfile.specs.declared.FileAnswer.{FileAnswer}
 use Rattle.nightfile.specs.declared.FileAnswer.the-variants.{Accepted as Taken, WrongLength, WrongContents, WrongPlanLength, PlanOutOfRange, BytesLeftOver, BadItem}
-use Rattle.nightfile.specs.File.{fileAnswerNumber}
+use Rattle.nightfile.specs.File.{Told as FileTold, fileAnswerNumber, fileAnswerPlace, fileAnswerTold}
 use Rattle.lines.specs.declared.Written.{Written}
 use Rattle.lines.specs.declared.Written.the-variants.{Length, TooShort}
 use Rattle.lines.specs.Line.{Told as LineTold, writtenNumber, writtenLength, writtenTold}
@@ -67,19 +67,19 @@ step-answer Bad = refl
 step-answer QueueFull = refl
 step-answer Astray = refl
 
-fileAnswer : ℕ → FileAnswer
-fileAnswer number =
-    getD (Taken ∷ WrongLength ∷ WrongContents ∷ WrongPlanLength ∷ PlanOutOfRange ∷ BytesLeftOver ∷ BadItem ∷ []) number Taken
+fileAnswer : FileTold → FileAnswer
+fileAnswer told =
+    getD (Taken ∷ WrongLength ∷ WrongContents ∷ WrongPlanLength ∷ PlanOutOfRange ∷ BytesLeftOver ∷ BadItem (told .place) ∷ []) (told .number) Taken
 
-file-answer : (x : FileAnswer) → fileAnswer (fileAnswerNumber x) ≡ x
-unfolding fileAnswer fileAnswerNumber
+file-answer : (x : FileAnswer) → fileAnswer (fileAnswerTold x) ≡ x
+unfolding fileAnswer fileAnswerTold fileAnswerNumber fileAnswerPlace
 file-answer Taken = refl
 file-answer WrongLength = refl
 file-answer WrongContents = refl
 file-answer WrongPlanLength = refl
 file-answer PlanOutOfRange = refl
 file-answer BytesLeftOver = refl
-file-answer BadItem = refl
+file-answer (BadItem place) = refl
 
 writtenAnswer : LineTold → Written
 writtenAnswer told = cond (eqb (told .number) 0) (Length (told .length)) TooShort
@@ -90,8 +90,8 @@ written-answer TooShort = refl
 written-answer (Length n) = refl
 
 -- so numbers and what is told tell answers apart
-pub file-apart : (x y : FileAnswer) → fileAnswerNumber x ≡ fileAnswerNumber y → x ≡ y
-file-apart = read-back fileAnswerNumber fileAnswer file-answer
+pub file-apart : (x y : FileAnswer) → fileAnswerTold x ≡ fileAnswerTold y → x ≡ y
+file-apart = read-back fileAnswerTold fileAnswer file-answer
 
 pub written-apart : (x y : Written) → writtenTold x ≡ writtenTold y → x ≡ y
 written-apart = read-back writtenTold writtenAnswer written-answer

@@ -7,6 +7,7 @@ pub night-file : NightFile
 night-file =
     record {
       file-number = (λ a. tt, λ a x y d e. same);
+      file-place = (λ a. tt, λ a x y d e. same);
       two-at = λ κ. (λ a. tt, λ a x y d e. same);
       test-file = λ κ. (λ a. tt, λ a x y d e p q. file-apart x y (same p q));
       plan-part = λ κ. (λ a. tt, λ a x y d e p q i. (same (p .0) (q .0) i, same (p .1) (q .1) i));
@@ -18,6 +19,8 @@ pub items : Items
 items =
     record {
       item-number = (λ a. tt, λ a x y d e. same);
+      item-place = (λ a. tt, λ a x y d e. same);
+      place-at = (λ a. tt, λ a x y d e. same);
       read = λ κ. (λ a. tt, λ a x y d e. same);
     }
 

@@ -5,12 +5,15 @@ use mathlib.Core.List.{List}
 use contract.Lifetimes.{Lfts}
 use denote.Ref.{now}
 use Rattle.nightfile.proofs.file_number.Reads as file-number
+use Rattle.nightfile.proofs.file_place.Reads as file-place
 use Rattle.nightfile.proofs.two_at.Reads as two-at
 use Rattle.nightfile.proofs.test_file.Reads as test-file
 use Rattle.nightfile.proofs.plan_part.Reads as plan-part
 use Rattle.nightfile.proofs.schedule_part.Reads as schedule-part
 use Rattle.nightfile.proofs.read_plan.Reads as read-plan
 use Rattle.items.proofs.item_number.Reads as item-number
+use Rattle.items.proofs.item_place.Reads as item-place
+use Rattle.items.proofs.place_at.Reads as place-at
 use Rattle.items.proofs.Cursor.read.Reads as read
 use Rattle.lines.proofs.written_number.Reads as written-number
 use Rattle.lines.proofs.write_line.Reads as write-line
@@ -34,6 +37,7 @@ use Rattle.settled.specs.Settled.{OneTold, Settled}
 -- nightfile
 pub record NightFile : Type 0 where
   pub file-number : Settled (file-number.Asked tt) (file-number.Learnt tt)
+  pub file-place : Settled (file-place.Asked tt) (file-place.Learnt tt)
   pub two-at : (κ : Lfts 1) → Settled (two-at.Asked κ) (two-at.Learnt κ)
   pub test-file : (κ : Lfts 1) → Settled (test-file.Asked κ) (test-file.Learnt κ)
   pub plan-part : (κ : Lfts 1) → ((a : _) → plan-part.Asked κ a) × OneTold {T = List ℕ × (ℕ × ℕ)} (λ r e. (now r, r .ptr)) (plan-part.Learnt κ)
@@ -43,6 +47,8 @@ pub record NightFile : Type 0 where
 -- items
 pub record Items : Type 0 where
   pub item-number : Settled (item-number.Asked tt) (item-number.Learnt tt)
+  pub item-place : Settled (item-place.Asked tt) (item-place.Learnt tt)
+  pub place-at : Settled (place-at.Asked tt) (place-at.Learnt tt)
   pub read : (κ : Lfts 1) → Settled (read.Asked κ) (read.Learnt κ)
 
 -- lines

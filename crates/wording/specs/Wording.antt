@@ -1,5 +1,5 @@
 -- 01, "The run and its lines": the words of each line. "Each line: steps done, letter, two numbers".
-use Prim.Native.Nat.{ℕ, _+_, _/_}
+use Prim.Native.Nat.{ℕ, _+_}
 use mathlib.Core.Bool.{Bool, cond}
 use mathlib.Core.List.{List}
 use Rattle.acts.specs.declared.Action.{Action}
@@ -26,9 +26,9 @@ actionLetter Force = 70
 unfoldable pub actionSays : ℕ → Action → ℕ → ℕ → Line
 actionSays steps action node lock = lineOf steps (actionLetter action) node lock
 
--- "X: a refused action, with its number and the item's place from 0": which item of the schedule it is, three bytes each
+-- "X: a refused action, with its number and the item's place from 0"
 unfoldable pub refusedSays : ℕ → ℕ → ℕ → Line
-refusedSays steps number at = lineOf steps 88 number (at / 3)
+refusedSays steps number place = lineOf steps 88 number place
 
 -- "Events bear their step's number, .. with node and lock: G granted, N failp returned, L lost to a dov, B own dov back, D didv sent."
 unfoldable pub eventSays : ℕ → ℕ → Event → Line
@@ -45,6 +45,6 @@ endLetter cut = cond cut 67 69
 unfoldable pub lastSays : ℕ → Bool → ℕ → ℕ → Line
 lastSays steps cut grants failed = lineOf steps (endLetter cut) grants failed
 
--- "A refused file gives only "0 Q number 0"."
-unfoldable pub refusalSays : ℕ → ℕ → Line
-refusalSays steps number = lineOf steps 81 number 0
+-- "A refused file gives only "0 Q number 0"."; 02, item 3: "The Q line's last number becomes that place for 6"
+unfoldable pub refusalSays : ℕ → ℕ → ℕ → Line
+refusalSays steps number place = lineOf steps 81 number place

@@ -42,11 +42,11 @@ pub fn action_line(steps: u64, action: Action, node: u8, lock: u8) -> Line
     line_of(steps, action_letter(action), node as u64, lock as u64)
 }
 
-// A refused action: X, with its number and the item's place, of the byte at which the item starts.
-pub fn refused_line(steps: u64, number: u8, at: usize) -> Line
-    ensures { λ r. ⌜ r ≡ refusedSays steps number at ⌝ }
+// A refused action: X, with its number and the item's place.
+pub fn refused_line(steps: u64, number: u8, place: usize) -> Line
+    ensures { λ r. ⌜ r ≡ refusedSays steps number place ⌝ }
 {
-    line_of(steps, b'X', number as u64, (at / 3) as u64)
+    line_of(steps, b'X', number as u64, place as u64)
 }
 
 // An event of the node at a place, with node and lock.
@@ -85,9 +85,9 @@ pub fn last_line(steps: u64, cut: bool, grants: u64, failed: u64) -> Line
     line_of(steps, end_letter(cut), grants, failed)
 }
 
-// A refused file: Q, with its number and 0.
-pub fn refusal_line(steps: u64, number: u8) -> Line
-    ensures { λ r. ⌜ r ≡ refusalSays steps number ⌝ }
+// A refused file: Q, with its number and the place that is told beside it.
+pub fn refusal_line(steps: u64, number: u8, place: usize) -> Line
+    ensures { λ r. ⌜ r ≡ refusalSays steps number place ⌝ }
 {
-    line_of(steps, b'Q', number as u64, 0)
+    line_of(steps, b'Q', number as u64, place as u64)
 }

@@ -13,8 +13,8 @@ enum-known-answer c = search needs
 enum-told-2 : tie.Need-enum-told-2
 enum-told-2 c = search needs
 
-enum-told-3 : tie.Need-enum-told-3
-enum-told-3 c = search needs
+enum-known-answer-2 : tie.Need-enum-known-answer-2
+enum-known-answer-2 c = search needs
 
 returns : tie.Need-returns
 unfolding itemAnswerNumber
@@ -30,7 +30,7 @@ returns-3 c = simp (c .enum-told2 .given .1)
 
 returns-4 : tie.Need-returns-4
 unfolding itemAnswerNumber
-returns-4 c = simp (c .enum-told3 .given .1)
+returns-4 c = simp (c .before .answer2 .given .1)
 
 pub item-number-spec : {M : Type 1} → statement M
 item-number-spec =
@@ -39,7 +39,7 @@ item-number-spec =
     enum-told
     enum-known-answer
     enum-told-2
-    enum-told-3
+    enum-known-answer-2
     returns
     returns-2
     returns-3

@@ -22,8 +22,8 @@ enum-told-5 c = search needs
 enum-told-6 : tie.Need-enum-told-6
 enum-told-6 c = search needs
 
-enum-told-7 : tie.Need-enum-told-7
-enum-told-7 c = search needs
+enum-known-answer : tie.Need-enum-known-answer
+enum-known-answer c = search needs
 
 returns : tie.Need-returns
 unfolding fileAnswerNumber
@@ -51,7 +51,7 @@ returns-6 c = simp (c .enum-told6 .given .1)
 
 returns-7 : tie.Need-returns-7
 unfolding fileAnswerNumber
-returns-7 c = simp (c .enum-told7 .given .1)
+returns-7 c = simp (c .before .answer .given .1)
 
 pub file-number-spec : {M : Type 1} → statement M
 file-number-spec =
@@ -63,7 +63,7 @@ file-number-spec =
     enum-told-4
     enum-told-5
     enum-told-6
-    enum-told-7
+    enum-known-answer
     returns
     returns-2
     returns-3

@@ -4,7 +4,7 @@ use native.Mathlib.Omega.{arith}
 use borrow.Author.Tests.{eq-eqb, ne-eqb}
 use borrow.Author.Needs.{needs}
 use Rattle.nightfile.specs.File.{schedulePart, ifAccepted}
-use Rattle.nightfile.proofs.Laws.{schedule-cut, start-most, accepted, part-place, refused-place}
+use Rattle.nightfile.proofs.Laws.{told-number, schedule-cut, start-most, accepted, part-place, refused-place}
 use Rattle.nightfile.proofs.schedule_part.Statement.{statement}
 use Rattle.nightfile.proofs.schedule_part.Tie as tie
 
@@ -19,12 +19,12 @@ schedule-start-requires c κs = search needs
 
 sub-result : tie.Need-sub-result
 sub-result c =
-    let within = start-most _ (accepted _ (sym (c .before .before .before .test-file .ensures) ∙ sym (c .before .before .file-number .ensures) ∙ c .before .if1 .taken) .contents) in
+    let within = start-most _ (accepted _ (sym (told-number _ _ (c .before .before .before .test-file .ensures)) ∙ sym (c .before .before .file-number .ensures) ∙ c .before .if1 .taken) .contents) in
     omega arith
 
 part-result-start : tie.Need-part-result-start
 part-result-start c =
-    let within = start-most _ (accepted _ (sym (c .before .before .before .test-file .ensures) ∙ sym (c .before .before .file-number .ensures) ∙ c .before .if1 .taken) .contents) in
+    let within = start-most _ (accepted _ (sym (told-number _ _ (c .before .before .before .test-file .ensures)) ∙ sym (c .before .before .file-number .ensures) ∙ c .before .if1 .taken) .contents) in
     omega arith
 
 part-result-end : tie.Need-part-result-end
@@ -32,14 +32,14 @@ part-result-end c = search needs
 
 returns : tie.Need-returns
 unfolding schedulePart ifAccepted
-returns c = (simp (← c .before .before .before .before .test-file .ensures, ← c .before .before .before .file-number .ensures, eq-eqb _ _ (c .before .before .if1 .taken), c .before .schedule-start .ensures .0, schedule-cut), part-place _ _ _ _ (simp (← c .before .before .before .before .test-file .ensures, ← c .before .before .before .file-number .ensures, eq-eqb _ _ (c .before .before .if1 .taken))) (c .before .schedule-start .ensures .0))
+returns c = (simp (← told-number _ _ (c .before .before .before .before .test-file .ensures), ← c .before .before .before .file-number .ensures, eq-eqb _ _ (c .before .before .if1 .taken), c .before .schedule-start .ensures .0, schedule-cut), part-place _ _ _ _ (simp (← told-number _ _ (c .before .before .before .before .test-file .ensures), ← c .before .before .before .file-number .ensures, eq-eqb _ _ (c .before .before .if1 .taken))) (c .before .schedule-start .ensures .0))
 
 slice-aggregate-result : tie.Need-slice-aggregate-result
 slice-aggregate-result c = search needs
 
 returns-2 : tie.Need-returns-2
 unfolding schedulePart ifAccepted
-returns-2 c = (simp (← c .before .before .before .test-file .ensures, ← c .before .before .file-number .ensures, ne-eqb _ _ (c .before .if1 .left)), refused-place _ _ _ (simp (← c .before .before .before .test-file .ensures, ← c .before .before .file-number .ensures, ne-eqb _ _ (c .before .if1 .left))))
+returns-2 c = (simp (← told-number _ _ (c .before .before .before .test-file .ensures), ← c .before .before .file-number .ensures, ne-eqb _ _ (c .before .if1 .left)), refused-place _ _ _ (simp (← told-number _ _ (c .before .before .before .test-file .ensures), ← c .before .before .file-number .ensures, ne-eqb _ _ (c .before .if1 .left))))
 
 pub schedule-part-spec : {M : Type 1} → statement M
 schedule-part-spec =

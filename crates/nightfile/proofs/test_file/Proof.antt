@@ -1,20 +1,20 @@
--- `test_file` gives the number of `fileNumber`: where the contents are right the two bodies are cut out of the file and tested.
+-- `test_file` gives `fileTold`: where the contents are right the two bodies are cut out of the file and tested.
 use mathlib.Core.Path.{sym, _∙_}
 use native.Mathlib.Omega.{arith}
 use borrow.Author.Tests.{le-ltb, lt-ltb}
 use borrow.Author.Needs.{needs}
 use Rattle.lists.specs.Refusal.{refusedIf}
-use Rattle.nightfile.specs.File.{fileNumber, lengthWrong, fileAnswerNumber}
+use Rattle.nightfile.specs.File.{fileTold, fileNumber, lengthWrong, numberAndPlace, fileAnswerNumber, fileAnswerPlace, fileAnswerTold}
 use Rattle.nightfile.proofs.Laws.{plan-cut, schedule-cut, start-most}
 use Rattle.nightfile.proofs.test_file.Statement.{statement}
 use Rattle.nightfile.proofs.test_file.Tie as tie
 
 returns : tie.Need-returns
-unfolding fileNumber lengthWrong refusedIf fileAnswerNumber
+unfolding fileTold fileNumber lengthWrong refusedIf numberAndPlace fileAnswerTold fileAnswerNumber fileAnswerPlace
 returns c = simp (lt-ltb _ _ (c .if1 .taken))
 
 returns-2 : tie.Need-returns-2
-unfolding fileNumber lengthWrong refusedIf fileAnswerNumber
+unfolding fileTold fileNumber lengthWrong refusedIf numberAndPlace fileAnswerTold fileAnswerNumber fileAnswerPlace
 returns-2 c = simp (lt-ltb _ _ (c .if2 .taken), le-ltb _ _ (c .before .if1 .left))
 
 contents-right-requires : tie.Need-contents-right-requires
@@ -51,7 +51,7 @@ answer-requires : tie.Need-answer-requires
 answer-requires c κs = search needs
 
 returns-3 : tie.Need-returns-3
-unfolding fileNumber lengthWrong refusedIf
+unfolding fileTold fileNumber lengthWrong refusedIf
 returns-3 c =
     simp (
       c .answer .ensures,
@@ -65,7 +65,7 @@ returns-3 c =
     )
 
 returns-4 : tie.Need-returns-4
-unfolding fileNumber lengthWrong refusedIf fileAnswerNumber
+unfolding fileTold fileNumber lengthWrong refusedIf numberAndPlace fileAnswerTold fileAnswerNumber fileAnswerPlace
 returns-4 c = simp (le-ltb _ _ (c .before .before .before .if1 .left), le-ltb _ _ (c .before .before .if2 .left), ← c .before .contents-right .ensures, c .if3 .left)
 
 pub test-file-spec : {M : Type 1} → statement M

@@ -22,8 +22,8 @@ enum-known-item-2 c = search needs
 enum-told-2 : tie.Need-enum-told-2
 enum-told-2 c = search needs
 
-enum-told-3 : tie.Need-enum-told-3
-enum-told-3 c = search needs
+enum-known-answer-2 : tie.Need-enum-known-answer-2
+enum-known-answer-2 c = search needs
 
 returns : tie.Need-returns
 unfolding aheadOf isAction isSteps stepsFound isAct stepsOf
@@ -43,8 +43,8 @@ returns-4 c = simp (← c .before .before .item-from .ensures, c .enum-told2 .gi
 
 returns-5 : tie.Need-returns-5
 unfolding aheadOf isAction isSteps stepsFound isAct stepsOf
-returns-5 c = simp (← c .before .before .item-from .ensures, c .enum-told3 .given .1)
+returns-5 c = simp (← c .before .before .before .item-from .ensures, c .before .answer2 .given .1)
 
 pub look-ahead-spec : {M : Type 1} → statement M
 look-ahead-spec =
-    tie.close (tie.spec item-from-requires enum-told enum-known-answer enum-known-item enum-known-item-2 enum-told-2 enum-told-3 returns returns-2 returns-3 returns-4 returns-5)
+    tie.close (tie.spec item-from-requires enum-told enum-known-answer enum-known-item enum-known-item-2 enum-told-2 enum-known-answer-2 returns returns-2 returns-3 returns-4 returns-5)

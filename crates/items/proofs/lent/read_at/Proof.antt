@@ -26,12 +26,15 @@ returns-2 c = simp (lt-leb _ _ (c .before .before .if1 .left), lt-ltb _ _ (c .be
 shared-slice-read-kind : tie.Need-shared-slice-read-kind
 shared-slice-read-kind c = search needs
 
+place-at-requires : tie.Need-place-at-requires
+place-at-requires c κs = search needs
+
 reading-of-requires-3 : tie.Need-reading-of-requires-3
 reading-of-requires-3 c κs = search needs
 
 returns-3 : tie.Need-returns-3
 unfolding readAt byteAt
-returns-3 c = simp (lt-leb _ _ (c .before .before .before .before .if1 .left), le-ltb _ _ (c .before .before .before .if2 .left), lt-ltb _ _ (c .before .if3 .taken), c .reading-of3 .ensures)
+returns-3 c = simp (lt-leb _ _ (c .before .before .before .before .before .if1 .left), le-ltb _ _ (c .before .before .before .before .if2 .left), lt-ltb _ _ (c .before .before .if3 .taken), c .before .place-at .ensures, c .reading-of3 .ensures)
 
 item-at-requires : tie.Need-item-at-requires
 item-at-requires c κs = search needs
@@ -56,6 +59,7 @@ read-at-spec =
     reading-of-requires-2
     returns-2
     shared-slice-read-kind
+    place-at-requires
     reading-of-requires-3
     returns-3
     item-at-requires

@@ -30,8 +30,8 @@ enum-told-2 c = search needs
 no-saying-requires-2 : tie.Need-no-saying-requires-2
 no-saying-requires-2 c κs = search needs
 
-enum-told-3 : tie.Need-enum-told-3
-enum-told-3 c = search needs
+enum-known-answer-2 : tie.Need-enum-known-answer-2
+enum-known-answer-2 c = search needs
 
 no-saying-requires-3 : tie.Need-no-saying-requires-3
 no-saying-requires-3 c κs = search needs
@@ -50,7 +50,7 @@ returns-3 c = c .no-saying2 .ensures ∙ ap (λ (a : ItemAnswer). answerSaying a
 
 returns-4 : tie.Need-returns-4
 unfolding answerSaying answerHere
-returns-4 c = c .no-saying3 .ensures ∙ ap (λ (a : ItemAnswer). answerSaying a (c .before .before .before .before .before .args .run)) (sym (c .before .enum-told3 .given .1) ∙ ap (λ (r : Reading). r .answer) (c .before .before .before .item-from .ensures))
+returns-4 c = c .no-saying3 .ensures ∙ ap (λ (a : ItemAnswer). answerSaying a (c .before .before .before .before .before .before .args .run)) (sym (c .before .before .answer2 .given .1) ∙ ap (λ (r : Reading). r .answer) (c .before .before .before .before .item-from .ensures))
 
 pub answer-saying-spec : {M : Type 1} → statement M
 answer-saying-spec =
@@ -63,7 +63,7 @@ answer-saying-spec =
     item-saying-requires
     enum-told-2
     no-saying-requires-2
-    enum-told-3
+    enum-known-answer-2
     no-saying-requires-3
     returns
     returns-2

@@ -13,8 +13,8 @@ enum-told-2 c = search needs
 enum-told-3 : tie.Need-enum-told-3
 enum-told-3 c = search needs
 
-enum-told-4 : tie.Need-enum-told-4
-enum-told-4 c = search needs
+enum-known-phase : tie.Need-enum-known-phase
+enum-known-phase c = search needs
 
 returns : tie.Need-returns
 unfolding isCut
@@ -30,9 +30,9 @@ returns-3 c = simp (c .enum-told3 .given .1)
 
 returns-4 : tie.Need-returns-4
 unfolding isCut
-returns-4 c = simp (c .enum-told4 .given .1)
+returns-4 c = simp (c .before .phase .given .1)
 
 pub is-cut-spec : {M : Type 1} → statement M
 is-cut-spec =
     tie.close
-    (tie.spec enum-told enum-told-2 enum-told-3 enum-told-4 returns returns-2 returns-3 returns-4)
+    (tie.spec enum-told enum-told-2 enum-told-3 enum-known-phase returns returns-2 returns-3 returns-4)
