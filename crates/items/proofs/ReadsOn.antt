@@ -46,8 +46,8 @@ reader-tells-the-same file six =
     let first = six-tells-the-first-bad file six in
     record {
       before = λ earlier l.
-        let next : 3 * earlier + 3 ≡ 3 * (earlier + 1) = omega arith in
-        finds (scheduleBody file) earlier (omega (arith, first .there)) (first .before earlier l)
-        ∙ ap (reading (Found (itemOf (scheduleBody file) (3 * earlier)))) next;
+          let next : 3 * earlier + 3 ≡ 3 * (earlier + 1) = omega arith in
+          finds (scheduleBody file) earlier (omega (arith, first .there)) (first .before earlier l)
+          ∙ ap (reading (Found (itemOf (scheduleBody file) (3 * earlier)))) next;
       there = finds-bad (scheduleBody file) _ (first .there) (first .bad);
     }

@@ -31,9 +31,9 @@ first-is f (suc n) k h holds fails =
     ⊎-elim
     (λ e. first-all f n (every-each f n (λ j l. holds j (omega arith))) (holds n (omega arith)) ∙ sym e)
     (λ l. ⊎-elim
-      (λ e. first-here f n (every-each f n (λ j l′. holds j (omega arith))) (ap f (sym e) ∙ fails (omega arith)) ∙ sym e)
-      (λ l′. first-before f n (every-not f n k l′ (fails (omega arith))) ∙ first-is f n k (omega arith) holds (λ l″. fails (omega arith)))
-      (eq-or-lt-of-le (omega arith)))
+    (λ e. first-here f n (every-each f n (λ j l′. holds j (omega arith))) (ap f (sym e) ∙ fails (omega arith)) ∙ sym e)
+    (λ l′. first-before f n (every-not f n k l′ (fails (omega arith))) ∙ first-is f n k (omega arith) holds (λ l″. fails (omega arith)))
+    (eq-or-lt-of-le (omega arith)))
     (eq-or-lt-of-le h)
 
 -- where it holds of each, it is n
