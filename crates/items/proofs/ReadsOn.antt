@@ -1,17 +1,18 @@
 -- Reading a schedule item by item: of an accepted file an item is found at each place, and at the end there are no more; of a file that is refused
 -- with 6 the first bad item's place is handed back.
 use Prim.Native.Nat.{ℕ, _+_, _-_, _*_, _/_, _≤_, _<_}
-use mathlib.Core.Path.{_≡_, ap, _∙_}
+use mathlib.Core.Path.{_≡_, refl, ap, _∙_}
 use mathlib.Core.List.{List}
 use native.Mathlib.Omega.{arith}
 use lib.ListN.{length}
 use borrow.Author.Tests.{le-leb, lt-leb, lt-ltb, le-ltb}
-use Rattle.nightfile.specs.File.{byteAt, scheduleBody, scheduleNumber}
+use Rattle.nightfile.specs.File.{byteAt, scheduleBody, scheduleNumber, filePlace}
 use Rattle.nightfile.proofs.Schedule.{whole, kind-most}
 use Rattle.nightfile.proofs.FirstBad.{six-tells-the-first-bad}
-use Rattle.items.specs.declared.ItemAnswer.the-variants.{NoMore, Found, Bad}
-use Rattle.items.specs.Items.{itemOf, placeAt, reading, readAt}
-use Rattle.items.specs.Theorems.{HandsBack, TheReaderTellsTheSame}
+use Rattle.items.specs.declared.ItemAnswer.the-variants.{NoMore, Found, LeftOver, Bad}
+use Rattle.items.specs.declared.Reading.{Reading}
+use Rattle.items.specs.Items.{itemOf, placeAt, reading, readAt, itemAnswerNumber, itemAnswerPlace}
+use Rattle.items.specs.Theorems.{HandsBack, TheReaderTellsTheSame, OnlyBadTellsAPlace}
 
 -- what is read at the item at an index: it is found where its first byte is at most 3, and else it is bad, with that index
 finds : (schedule : List ℕ) (k : ℕ) → k < length schedule / 3 → byteAt schedule (3 * k) ≤ 3 →
@@ -42,12 +43,23 @@ reads-past schedule at past = simp (le-leb _ _ past)
 
 -- the item reader hands back the place that the file is told with
 pub reader-tells-the-same : TheReaderTellsTheSame
+unfolding itemAnswerNumber itemAnswerPlace reading
 reader-tells-the-same file six =
     let first = six-tells-the-first-bad file six in
+    let here : readAt (scheduleBody file) (3 * filePlace file) ≡ reading (Bad (filePlace file)) (3 * filePlace file) = finds-bad (scheduleBody file) _ (first .there) (first .bad) in
     record {
       before = λ earlier l.
           let next : 3 * earlier + 3 ≡ 3 * (earlier + 1) = omega arith in
           finds (scheduleBody file) earlier (omega (arith, first .there)) (first .before earlier l)
           ∙ ap (reading (Found (itemOf (scheduleBody file) (3 * earlier)))) next;
-      there = finds-bad (scheduleBody file) _ (first .there) (first .bad);
+      there = here;
+      number = ap (λ (r : Reading). itemAnswerNumber (r .answer)) here;
+      told = ap (λ (r : Reading). itemAnswerPlace (r .answer)) here;
     }
+
+pub only-bad-tells-a-place : OnlyBadTellsAPlace
+unfolding itemAnswerNumber itemAnswerPlace
+only-bad-tells-a-place NoMore other = refl
+only-bad-tells-a-place (Found item) other = refl
+only-bad-tells-a-place LeftOver other = refl
+only-bad-tells-a-place (Bad place) other = absurd (other refl)
