@@ -54,7 +54,7 @@ fn after_steps(state: State) -> State {
 // A line that does not fit is refused (16), and leaves the buffer as it was.
 fn refused_line() {
     let mut buffer = [b'-'; 4];
-    let written = lines::write_line(&mut buffer, 0, b'T', 1, 0);
+    let written = lines::write_line(&mut buffer, 0, b'T', &[1, 0]);
     say(
         b"a line of 8 bytes into a buffer of 4",
         lines::written_number(written) as u64,

@@ -39,9 +39,11 @@ actionLine action node lock run =
     (actionSays (run .reached .steps) action node lock)
     (refusedSays (run .reached .steps) (actionRefusal action node lock run) (placeAt (run .at)))
 
--- the line of the lock that is told of next
+-- the line of the lock that is told of next: its busy steps, its grants, its N events
 unfoldable pub lockLine : Run → Line
-lockLine run = lockSays (run .reached .steps) (run .next) (getD (run .reached .tally .busy) (run .next) 0)
+lockLine run =
+    lockSays (run .reached .steps) (run .next) (getD (run .reached .tally .busy) (run .next) 0) (getD (run .reached .tally .grants) (run .next) 0)
+    (getD (run .reached .tally .failed) (run .next) 0)
 
 -- "C where the schedule's sum is above the ceiling": whether the run was cut there
 unfoldable pub isCut : Phase → Bool

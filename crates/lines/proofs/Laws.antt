@@ -3,14 +3,14 @@ use Prim.Native.Nat.{ℕ, zero, suc, _+_, _-_, _*_, _/_, _%_, _^_, _≤_, _<_}
 use mathlib.Core.Path.{_≡_, refl, sym, ap, _∙_}
 use mathlib.Core.Bool.{Bool, true, false, cond}
 use mathlib.Core.Logic.{_⊎_, inl, inr, ⊎-elim}
-use mathlib.Core.List.{List, [], _∷_, _++_}
+use mathlib.Core.List.{List, [], _∷_, _++_, append-nil, append-assoc}
 use native.Mathlib.Nat.{pow-suc, pow-le-pow-right, add-zero, zero-add, lt-of-lt-of-le}
 use native.Mathlib.Omega.{arith}
 use borrow.Author.Tests.{lt-ltb, le-ltb, ltb-true, ltb-false}
-use lib.Dec.{ltb, lit≤, lit<}
-use lib.ListN.{length, getD, set, drop, length-append}
-use lib.Seq.{sets, sets-eq}
-use Rattle.lines.specs.Line.{digit, digits, decimal, line}
+use lib.Dec.{ltb, leb, lit≤, lit<}
+use lib.ListN.{length, getD, set, take, drop, length-append, take-append-drop}
+use lib.Seq.{sets, sets-eq, take-suc, take-all}
+use Rattle.lines.specs.Line.{digit, digits, decimal, spaced, line, row}
 
 -- ---- how many digits are enough
 
@@ -146,15 +146,64 @@ decimal-length-one h = ap length (decimal-one h)
 pub decimal-length-more : {n : ℕ} → n < 2 ^ 64 → 10 ≤ n → length (decimal n) ≡ length (decimal (n / 10)) + 1
 decimal-length-more h ten = simp length-append at (ap length (decimal-more h ten))
 
-module _ (steps letter first second : ℕ) where
-  -- a line's length: its three numbers, the letter, three spaces, the newline
-  pub line-length : length (line steps letter first second) ≡ length (decimal steps) + length (decimal first) + length (decimal second) + 5
-  unfolding line
-  line-length = simp length-append (omega arith)
+-- ---- numbers in order, each behind a space
 
-  -- a buffer of 65 bytes has room for every line
-  pub line-length-most : length (line steps letter first second) ≤ 65
-  line-length-most = omega (arith, line-length, decimal-length-most steps, decimal-length-most first, decimal-length-most second)
+spaced-append : (a b : List ℕ) → spaced (a ++ b) ≡ spaced a ++ spaced b
+unfolding spaced
+spaced-append [] b = refl
+spaced-append (n ∷ a) b =
+    ap (λ (l : List ℕ). 32 ∷ (decimal n ++ l)) (spaced-append a b) ∙ ap (λ (l : List ℕ). 32 ∷ l) (sym (append-assoc (decimal n) (spaced a) (spaced b)))
+
+-- one number more
+pub spaced-more : (numbers : List ℕ) (i : ℕ) → i < length numbers
+    → spaced (take (i + 1) numbers) ≡ spaced (take i numbers) ++ (32 ∷ decimal (getD numbers i 0))
+unfolding spaced
+spaced-more numbers i h =
+    let e : i + 1 ≡ suc i = omega arith in
+    ap (λ (n : ℕ). spaced (take n numbers)) e ∙ ap spaced (take-suc numbers i 0 h) ∙ spaced-append (take i numbers) (getD numbers i 0 ∷ [])
+    ∙ ap (λ (l : List ℕ). spaced (take i numbers) ++ (32 ∷ l)) (append-nil (decimal (getD numbers i 0)))
+
+pub spaced-length-more : (numbers : List ℕ) (i : ℕ) → i < length numbers
+    → length (spaced (take (i + 1) numbers)) ≡ length (spaced (take i numbers)) + length (decimal (getD numbers i 0)) + 1
+spaced-length-more numbers i h =
+    ap length (spaced-more numbers i h) ∙ length-append (spaced (take i numbers)) (32 ∷ decimal (getD numbers i 0)) ∙ omega arith
+
+-- those up to a place are a part of all
+pub spaced-part : (numbers : List ℕ) (i : ℕ) → length (spaced (take i numbers)) ≤ length (spaced numbers)
+spaced-part numbers i =
+    let whole : length (spaced numbers) ≡ length (spaced (take i numbers)) + length (spaced (drop i numbers)) =
+    ap (λ (l : List ℕ). length (spaced l)) (sym (take-append-drop i numbers)) ∙ ap length (spaced-append (take i numbers) (drop i numbers))
+    ∙ length-append (spaced (take i numbers)) (spaced (drop i numbers)) in
+    omega (arith, whole)
+
+-- and at the end they are all
+pub spaced-all : (numbers : List ℕ) (i : ℕ) → length numbers ≤ i → spaced (take i numbers) ≡ spaced numbers
+spaced-all numbers i h = ap spaced (take-all i numbers h)
+
+-- a line's length: its steps, a space, the letter, its numbers, the newline
+pub line-length : (steps letter : ℕ) (numbers : List ℕ) → length (line steps letter numbers) ≡ length (decimal steps) + 3 + length (spaced numbers)
+unfolding line
+line-length steps letter numbers = simp length-append (omega arith)
+
+pub row-length : (first : ℕ) (numbers : List ℕ) → length (row first numbers) ≡ length (decimal first) + 1 + length (spaced numbers)
+unfolding row
+row-length first numbers = simp length-append (omega arith)
+
+-- whether there is room, as it was asked by the width of the first number, is whether the whole text fits
+pub room-told : (more rest room : ℕ) {text wide digits : ℕ} {answer : Bool}
+    → text ≡ digits + more + rest → wide ≡ digits → answer ≡ leb (wide + more + rest) room → leb text room ≡ answer
+room-told more rest room e d a = ap (λ (n : ℕ). leb n room) (e ∙ ap (λ (n : ℕ). n + more + rest) (sym d)) ∙ sym a
+
+-- each number has at most 20 digits and a space
+spaced-length-most : (numbers : List ℕ) → length (spaced numbers) ≤ 21 * length numbers
+unfolding spaced
+spaced-length-most [] = lit≤ tt
+spaced-length-most (n ∷ rest) =
+    omega (arith, length-append (decimal n) (spaced rest), decimal-length-most n, spaced-length-most rest)
+
+-- a buffer of 107 bytes has room for every line of at most four numbers
+pub line-length-most : (steps letter : ℕ) (numbers : List ℕ) → length numbers ≤ 4 → length (line steps letter numbers) ≤ 107
+line-length-most steps letter numbers h = omega (arith, line-length steps letter numbers, decimal-length-most steps, spaced-length-most numbers)
 
 -- ---- a line as a run of stores
 
@@ -188,19 +237,40 @@ module _ (before : List ℕ) (at n c : ℕ) (e : c ≡ digit (n % 10)) where
       → Put before at (decimal (n / 10)) after mid → Put after mid (c ∷ []) last end → Put before at (decimal n) last end
   put-more h ten p q = rw (decimal-more h ten, ← e) (put-on before at (decimal (n / 10)) (c ∷ []) p q)
 
--- a line's eight parts, put one behind the other from the buffer's start
-pub put-line : (before : List ℕ) (steps letter first second : ℕ) {b₁ b₂ b₃ b₄ b₅ b₆ b₇ after : List ℕ} {e₁ e₂ e₃ e₄ e₅ e₆ e₇ end : ℕ}
-    → Put before 0 (decimal steps) b₁ e₁ → Put b₁ e₁ (32 ∷ []) b₂ e₂ → Put b₂ e₂ (letter ∷ []) b₃ e₃ → Put b₃ e₃ (32 ∷ []) b₄ e₄
-    → Put b₄ e₄ (decimal first) b₅ e₅ → Put b₅ e₅ (32 ∷ []) b₆ e₆ → Put b₆ e₆ (decimal second) b₇ e₇ → Put b₇ e₇ (10 ∷ []) after end
-    → length (decimal steps) + length (decimal first) + length (decimal second) + 5 ≤ length before
-    → after ≡ line steps letter first second ++ drop (length (line steps letter first second)) before
+-- numbers in order: none yet, and one more
+pub put-none : (before : List ℕ) (at : ℕ) (numbers : List ℕ) → Put before at (spaced (take 0 numbers)) before at
+unfolding spaced
+put-none before at numbers = (omega arith, refl)
+
+pub put-another : (before : List ℕ) (at : ℕ) (numbers : List ℕ) (i : ℕ) {after spaced-after last : List ℕ} {end mid end-after : ℕ} → i < length numbers
+    → Put before at (spaced (take i numbers)) after end → Put after end (32 ∷ []) spaced-after mid
+    → Put spaced-after mid (decimal (getD numbers i 0)) last end-after → Put before at (spaced (take (i + 1) numbers)) last end-after
+put-another before at numbers i {after = after} {end = end} h p q r =
+    rw (spaced-more numbers i h)
+    (put-on before at (spaced (take i numbers)) (32 ∷ decimal (getD numbers i 0)) p (put-on after end (32 ∷ []) (decimal (getD numbers i 0)) q r))
+
+-- bytes put at the buffer's start stand before what was behind them
+whole : (before text : List ℕ) {after : List ℕ} {end : ℕ} → Put before 0 text after end → length text ≤ length before
+    → (end ≡ length text) × (after ≡ text ++ drop (length text) before)
+whole before text p room = (omega arith, p .1 ∙ sets-front text before room)
+
+-- a line's parts, and a row's, put one behind the other from the buffer's start
+pub put-line : (before : List ℕ) (steps letter : ℕ) (numbers : List ℕ) {b₁ b₂ b₃ b₄ after : List ℕ} {e₁ e₂ e₃ e₄ end : ℕ}
+    → Put before 0 (decimal steps) b₁ e₁ → Put b₁ e₁ (32 ∷ []) b₂ e₂ → Put b₂ e₂ (letter ∷ []) b₃ e₃
+    → Put b₃ e₃ (spaced numbers) b₄ e₄ → Put b₄ e₄ (10 ∷ []) after end → length (line steps letter numbers) ≤ length before
+    → (end ≡ length (line steps letter numbers)) × (after ≡ line steps letter numbers ++ drop (length (line steps letter numbers)) before)
 unfolding line
-put-line before steps letter first second {b₁ = b₁} {e₁ = e₁} p₁ p₂ p₃ p₄ p₅ p₆ p₇ p₈ room =
+put-line before steps letter numbers {b₁ = b₁} {e₁ = e₁} p₁ p₂ p₃ p₄ p₅ room =
     let s : List ℕ = decimal steps in
-    let between : List ℕ = 32 ∷ letter ∷ 32 ∷ [] in
-    let l = put-on b₁ e₁ (32 ∷ letter ∷ []) (32 ∷ []) (put-on b₁ e₁ (32 ∷ []) (letter ∷ []) p₂ p₃) p₄ in
-    let f = put-on before 0 (s ++ between) (decimal first) (put-on before 0 s between p₁ l) p₅ in
-    let g = put-on before 0 (s ++ between ++ decimal first) (32 ∷ []) f p₆ in
-    let d = put-on before 0 (s ++ between ++ decimal first ++ (32 ∷ [])) (decimal second) g p₇ in
-    let n = put-on before 0 (s ++ between ++ decimal first ++ (32 ∷ []) ++ decimal second) (10 ∷ []) d p₈ in
-    n .1 ∙ sets-front (line steps letter first second) before (rw (line-length steps letter first second) room)
+    let between : List ℕ = 32 ∷ letter ∷ [] in
+    let l = put-on before 0 s between p₁ (put-on b₁ e₁ (32 ∷ []) (letter ∷ []) p₂ p₃) in
+    let n = put-on before 0 (s ++ between) (spaced numbers) l p₄ in
+    whole before (line steps letter numbers) (put-on before 0 (s ++ between ++ spaced numbers) (10 ∷ []) n p₅) room
+
+pub put-row : (before : List ℕ) (first : ℕ) (numbers : List ℕ) {b₁ b₂ after : List ℕ} {e₁ e₂ end : ℕ}
+    → Put before 0 (decimal first) b₁ e₁ → Put b₁ e₁ (spaced numbers) b₂ e₂ → Put b₂ e₂ (10 ∷ []) after end → length (row first numbers) ≤ length before
+    → (end ≡ length (row first numbers)) × (after ≡ row first numbers ++ drop (length (row first numbers)) before)
+unfolding row
+put-row before first numbers p₁ p₂ p₃ room =
+    let n = put-on before 0 (decimal first) (spaced numbers) p₁ p₂ in
+    whole before (row first numbers) (put-on before 0 (decimal first ++ spaced numbers) (10 ∷ []) n p₃) room

@@ -1,5 +1,5 @@
 -- 01, "The run and its lines": "Each line: steps done, letter, two numbers, single spaces, newline; numbers are decimal without
--- leading zeros"; and number 16.
+-- leading zeros"; and number 16. 02, item 13: an H line has four numbers, and a sheet has rows of numbers without a letter.
 use Prim.Native.Nat.{ℕ, zero, suc, _+_, _/_, _%_}
 use mathlib.Core.Bool.{cond}
 use mathlib.Core.List.{List, [], _∷_, _++_}
@@ -21,10 +21,19 @@ digits (suc k) n = cond (ltb n 10) (digit n ∷ []) (digits k (n / 10) ++ (digit
 unfoldable pub decimal : ℕ → List ℕ
 decimal n = digits 20 n
 
--- "steps done, letter, two numbers, single spaces, newline"; "the line writer takes any byte as the letter"
-unfoldable pub line : ℕ → ℕ → ℕ → ℕ → List ℕ
-line steps letter first second =
-    decimal steps ++ (32 ∷ letter ∷ 32 ∷ []) ++ decimal first ++ (32 ∷ []) ++ decimal second ++ (10 ∷ [])
+-- "single spaces": numbers in order, each behind a space
+unfoldable pub spaced : List ℕ → List ℕ
+spaced [] = []
+spaced (number ∷ rest) = 32 ∷ (decimal number ++ spaced rest)
+
+-- "steps done, letter, two numbers, single spaces, newline"; "the line writer takes any byte as the letter". 02, item 13: "Each H line must
+-- end with two more numbers": a line has any numbers, in order
+unfoldable pub line : ℕ → ℕ → List ℕ → List ℕ
+line steps letter numbers = decimal steps ++ (32 ∷ letter ∷ []) ++ spaced numbers ++ (10 ∷ [])
+
+-- a row of a sheet: numbers in order, single spaces, newline
+unfoldable pub row : ℕ → List ℕ → List ℕ
+row first numbers = decimal first ++ spaced numbers ++ (10 ∷ [])
 
 -- "A written line stands at the buffer's start, .. and no other byte changes"; 16 leaves the buffer as it was
 unfoldable pub bufferAfter : List ℕ → List ℕ → List ℕ

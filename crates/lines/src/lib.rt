@@ -1,11 +1,12 @@
-// The line writer: steps done, letter, two numbers, into the start of a lent buffer, or refused with 16.
-// The first pass counts the line's bytes; where the buffer has room for them the second one writes them in order.
+// The line writer: steps done, letter, numbers in order, into the start of a lent buffer, or refused with 16; and the same of a row of
+// numbers. The first pass counts the bytes; where the buffer has room for them the second one writes them in order.
 ghost use Prim.Native.Nat.{_+_, _/_, _%_, _<_, _≤_};
 ghost use mathlib.Core.Path.{_≡_};
 ghost use mathlib.Core.List.{_++_};
+ghost use lib.Dec.{leb};
 ghost use lib.ListN.{length, set, drop};
 ghost use lib.Seq.{sets};
-ghost use Rattle.lines.specs.Line.{digit, decimal, line, bufferAfter, writtenNumber, writtenTold, writing};
+ghost use Rattle.lines.specs.Line.{digit, decimal, spaced, line, row, bufferAfter, writtenNumber, writtenTold, writing};
 
 const SPACE: u8 = b' ';
 
@@ -51,11 +52,25 @@ fn width(number: u64) -> usize
     width(without_last(number)) + 1
 }
 
-// How many bytes a line has: three numbers, a letter, three spaces, a newline.
-fn line_length(steps: u64, first: u64, second: u64) -> usize
-    ensures { λ r. ⌜ r ≡ length (decimal steps) + length (decimal first) + length (decimal second) + 5 ⌝ }
+// Whether a room takes so many bytes in front and then the numbers, each behind a space. The room is counted down, so that nothing
+// overflows, however many numbers there are.
+fn has_room(room: usize, front: usize, numbers: &[u64]) -> bool
+    ensures { λ r. ⌜ r ≡ leb (front + length (spaced (now (numbers .entry)))) room ⌝ }
 {
-    width(steps) + width(first) + width(second) + 5
+    if room < front {
+        return false;
+    }
+    let mut left = room - front;
+    let mut i = 0;
+    while i < numbers.len() {
+        let needed = width(numbers[i]) + 1;
+        if left < needed {
+            return false;
+        }
+        left -= needed;
+        i += 1;
+    }
+    true
 }
 
 // Writes one byte, and answers with the place behind it.
@@ -81,30 +96,64 @@ fn put_number(buffer: &mut [u8], at: usize, number: u64) -> usize
     put_byte(buffer, last, last_digit(number))
 }
 
-// Writes the line's bytes in order; the caller has seen that there is room.
-fn put_line(buffer: &mut [u8], steps: u64, letter: u8, first: u64, second: u64)
-    requires { ⌜ length (decimal steps) + length (decimal first) + length (decimal second) + 5 ≤ length (now buffer) ⌝ }
-    ensures { λ r. ⌜ now (buffer .exit) ≡ line steps letter first second ++ drop (length (line steps letter first second)) (now (buffer .entry)) ⌝ }
+// Writes numbers in order, each behind a space, and answers with the place behind them.
+fn put_numbers(buffer: &mut [u8], at: usize, numbers: &[u64]) -> usize
+    requires { ⌜ at + length (spaced (now numbers)) ≤ length (now buffer) ⌝ }
+    ensures { λ r. ⌜ r ≡ at + length (spaced (now (numbers .entry))) ⌝ }
+    ensures { λ r. ⌜ now (buffer .exit) ≡ sets (now (buffer .entry)) at (spaced (now (numbers .entry))) ⌝ }
+{
+    let mut end = at;
+    let mut i = 0;
+    while i < numbers.len() {
+        let number_at = put_byte(buffer, end, SPACE);
+        end = put_number(buffer, number_at, numbers[i]);
+        i += 1;
+    }
+    end
+}
+
+// Writes the line's bytes in order, and answers with the place behind them; the caller has seen that there is room.
+fn put_line(buffer: &mut [u8], steps: u64, letter: u8, numbers: &[u64]) -> usize
+    requires { ⌜ length (line steps letter (now numbers)) ≤ length (now buffer) ⌝ }
+    ensures { λ r. ⌜ r ≡ length (line steps letter (now (numbers .entry))) ⌝ }
+    ensures { λ r. ⌜ now (buffer .exit) ≡ line steps letter (now (numbers .entry)) ++ drop (length (line steps letter (now (numbers .entry)))) (now (buffer .entry)) ⌝ }
 {
     let steps_end = put_number(buffer, 0, steps);
     let letter_at = put_byte(buffer, steps_end, SPACE);
     let letter_end = put_byte(buffer, letter_at, letter);
-    let first_at = put_byte(buffer, letter_end, SPACE);
-    let first_end = put_number(buffer, first_at, first);
-    let second_at = put_byte(buffer, first_end, SPACE);
-    let second_end = put_number(buffer, second_at, second);
-    put_byte(buffer, second_end, NEWLINE);
+    let numbers_end = put_numbers(buffer, letter_end, numbers);
+    put_byte(buffer, numbers_end, NEWLINE)
 }
 
 // Writes a line at the buffer's start, or refuses a buffer that is shorter than the line and leaves it as it was.
-pub fn write_line(buffer: &mut [u8], steps: u64, letter: u8, first: u64, second: u64) -> Written
-    ensures { λ r. ⌜ writtenTold r ≡ writing (now (buffer .entry)) (line steps letter first second) ⌝ }
-    ensures { λ r. ⌜ now (buffer .exit) ≡ bufferAfter (now (buffer .entry)) (line steps letter first second) ⌝ }
+pub fn write_line(buffer: &mut [u8], steps: u64, letter: u8, numbers: &[u64]) -> Written
+    ensures { λ r. ⌜ writtenTold r ≡ writing (now (buffer .entry)) (line steps letter (now (numbers .entry))) ⌝ }
+    ensures { λ r. ⌜ now (buffer .exit) ≡ bufferAfter (now (buffer .entry)) (line steps letter (now (numbers .entry))) ⌝ }
 {
-    let needed = line_length(steps, first, second);
-    if needed <= buffer.len() {
-        put_line(buffer, steps, letter, first, second);
-        return Written::Length(needed);
+    if has_room(buffer.len(), width(steps) + 3, numbers) {
+        return Written::Length(put_line(buffer, steps, letter, numbers));
+    }
+    Written::TooShort
+}
+
+// Writes the bytes of a row in order, and answers with the place behind them; the caller has seen that there is room.
+fn put_row(buffer: &mut [u8], first: u64, numbers: &[u64]) -> usize
+    requires { ⌜ length (row first (now numbers)) ≤ length (now buffer) ⌝ }
+    ensures { λ r. ⌜ r ≡ length (row first (now (numbers .entry))) ⌝ }
+    ensures { λ r. ⌜ now (buffer .exit) ≡ row first (now (numbers .entry)) ++ drop (length (row first (now (numbers .entry)))) (now (buffer .entry)) ⌝ }
+{
+    let first_end = put_number(buffer, 0, first);
+    let numbers_end = put_numbers(buffer, first_end, numbers);
+    put_byte(buffer, numbers_end, NEWLINE)
+}
+
+// Writes a row of numbers at the buffer's start, or refuses a buffer that is shorter than the row and leaves it as it was.
+pub fn write_row(buffer: &mut [u8], first: u64, numbers: &[u64]) -> Written
+    ensures { λ r. ⌜ writtenTold r ≡ writing (now (buffer .entry)) (row first (now (numbers .entry))) ⌝ }
+    ensures { λ r. ⌜ now (buffer .exit) ≡ bufferAfter (now (buffer .entry)) (row first (now (numbers .entry))) ⌝ }
+{
+    if has_room(buffer.len(), width(first) + 1, numbers) {
+        return Written::Length(put_row(buffer, first, numbers));
     }
     Written::TooShort
 }

@@ -14,7 +14,7 @@ fn write_out(bytes: &[u8]) -> bool {
     is_written
 }
 
-// Writes the lines of a run, a buffer at a time. A line has at most 65 bytes, so every buffer takes some.
+// Writes the lines of a run, a buffer at a time. A line has at most 107 bytes, so every buffer takes some.
 fn write_lines(start: Run, schedule: &[u8]) {
     let mut buffer = io::large_buffer();
     let mut run = start;

@@ -196,7 +196,7 @@ module _ {file : List ℕ} where
   goes-closing (suc n) run m a w =
       let b = at-same (past run) refl a in
       goes-says none none (lockLine run) run (past run) (standing a) (standing b) (λ lock. lock-reports _ lock run)
-      (lock-recounted (busySteps file) _ (run .next) _ (a .counted .busy (run .next) (omega arith))) (goes-closing n (past run) (omega arith) b w)
+      (lock-recounted (busySteps file) _ (run .next) _ _ _ (a .counted .busy (run .next) (omega arith))) (goes-closing n (past run) (omega arith) b w)
 
   -- a node's event, told or not
   goes-event : (test : Bool) (toTell : ℕ → List Moment) {done left : List Item} (run : Run) {c : Course} → isEvent (eventHere run) ≡ test → At file done left run

@@ -87,13 +87,14 @@ tells-none rules lock places next (suc n) =
     ∙ tells-none rules lock places (next + 1) n
 
 -- a line says the steps that are done
-line-says : (steps letter first second : ℕ) → lineOf steps letter first second ≡ record { steps = steps; letter = letter; first = first; second = second }
+line-says : (steps letter first second : ℕ)
+    → lineOf steps letter first second ≡ record { steps = steps; letter = letter; first = first; second = second; long = false; third = 0; fourth = 0 }
 unfolding lineOf
 line-says steps letter first second = refl
 
 -- an event's line reports its deed, in the step whose number it bears
 line-reports : (rules lock steps node : ℕ) (event : Event)
-    → reports rules lock (record { steps = steps; letter = eventLetter event; first = node; second = eventLock event })
+    → reports rules lock (record { steps = steps; letter = eventLetter event; first = node; second = eventLock event; long = false; third = 0; fourth = 0 })
     ≡ apart (inStep steps) (deedOf rules lock node event)
 unfolding reports timeOfLine deedsOfLine noted deedOf eventLetter eventLock apart
 line-reports rules lock steps node Nothing = refl
@@ -121,7 +122,7 @@ no-event rules lock node (Sent own) e = absurd (true≢false e)
 
 -- an action's line reports an ending, after the steps done, where it is an accepted release under ring rules
 accepted-reports : (rules lock steps node own : ℕ) (action : Action)
-    → reports rules lock (record { steps = steps; letter = actionLetter action; first = node; second = own })
+    → reports rules lock (record { steps = steps; letter = actionLetter action; first = node; second = own; long = false; third = 0; fourth = 0 })
     ≡ noted (afterStep steps) (deedIf (releases action && not (multiring rules) && eqb own lock) (ended node)) []
 unfolding reports timeOfLine deedsOfLine noted actionLetter releases deedIf
 accepted-reports rules lock steps node own Take = refl
@@ -150,7 +151,7 @@ action-reports action node own lock run =
 
 -- a lock's line and the last line report nothing
 pub lock-reports : (rules lock : ℕ) (run : Run) → reports rules lock (lockLine run) ≡ []
-unfolding reports deedsOfLine noted lockLine lockSays lineOf
+unfolding reports deedsOfLine noted lockLine lockSays
 lock-reports rules lock run = refl
 
 end-reports : (rules lock steps first second : ℕ) (cut : Bool) → reports rules lock (lastSays steps cut first second) ≡ []

@@ -18,7 +18,7 @@ use Rattle.tally.specs.Tally.{eventTally, placeTally, eventsTally, stepTally}
 use Rattle.items.specs.declared.Item.{Item}
 use Rattle.items.specs.declared.Item.the-variants.{Steps, Act}
 use Rattle.wording.specs.declared.Line.{Line}
-use Rattle.wording.specs.Wording.{text, lineOf, lockSays}
+use Rattle.wording.specs.Wording.{text, lockSays}
 use Rattle.course.specs.declared.Run.{Run}
 use Rattle.course.specs.declared.Phase.{Phase}
 use Rattle.course.specs.declared.Phase.the-variants.{Items, Ended, Cut, Refused}
@@ -110,7 +110,7 @@ same-telling-all then t counts run = same-telling (nodesOf run - run .next) then
 
 -- the lines of the end
 same-closing : (n : ℕ) → Then (closing n)
-unfolding closing past allSaid lockLine lastLine locksOf recounted lockSays lineOf withBusy
+unfolding closing past allSaid lockLine lastLine locksOf recounted lockSays withBusy
 same-closing zero counts run =
     same-says (lastLine run) (lastLine run) (withBusy counts run) run (withBusy counts (allSaid run)) (allSaid run)
     (silence (withBusy counts (allSaid run))) (silence (allSaid run)) (λ count. refl) (same-silence counts (allSaid run))

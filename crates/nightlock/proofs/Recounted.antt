@@ -20,9 +20,10 @@ use Rattle.nightlock.specs.Busy.{recounted, textBy}
 
 module _ (count : ℕ → ℕ → ℕ) where
   -- an H line with this count
-  pub lock-recounted : (steps lock busy : ℕ) → busy ≡ count steps lock → recounted count (lockSays steps lock busy) ≡ lockSays steps lock busy
-  unfolding recounted lockSays lineOf
-  lock-recounted steps lock busy e = ap (lockSays steps lock) (sym e)
+  pub lock-recounted : (steps lock busy grants failed : ℕ) → busy ≡ count steps lock
+      → recounted count (lockSays steps lock busy grants failed) ≡ lockSays steps lock busy grants failed
+  unfolding recounted lockSays
+  lock-recounted steps lock busy grants failed e = ap (λ (n : ℕ). lockSays steps lock n grants failed) (sym e)
 
   -- no other line is an H line
   event-same : (steps place : ℕ) (event : Event) → recounted count (eventSays steps place event) ≡ eventSays steps place event

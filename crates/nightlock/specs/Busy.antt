@@ -40,7 +40,7 @@ fileSteps so file steps lock = stepsAfterWhich (so lock) steps (itemsIn file) (s
 
 -- an H line with its busy steps by another count, of the steps done and the lock that it names; every other line as it is
 unfoldable pub recounted : (ℕ → ℕ → ℕ) → Line → Line
-recounted count line = cond (eqb (line .letter) 72) (lockSays (line .steps) (line .first) (count (line .steps) (line .first))) line
+recounted count line = cond (eqb (line .letter) 72) (lockSays (line .steps) (line .first) (count (line .steps) (line .first)) (line .third) (line .fourth)) line
 
 -- the lines so, as they are written
 unfoldable pub textBy : (ℕ → ℕ → ℕ) → List Said → List ℕ

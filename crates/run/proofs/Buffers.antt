@@ -18,7 +18,7 @@ use Rattle.course.specs.declared.Run.{Run}
 use Rattle.course.specs.declared.Phase.{Phase}
 use Rattle.course.specs.declared.Phase.the-variants.{Items, Ended, Cut, Refused}
 use Rattle.course.specs.Standing.{nodesOf, past, stepsItem, atEnd}
-use Rattle.wording.specs.Wording.{text}
+use Rattle.wording.specs.Wording.{numbersOf, text}
 use Rattle.course.specs.Wording.{eventHere, isEvent}
 use Rattle.course.specs.Whole.{Course, says, silence, course, andOthers}
 use Rattle.course.specs.Ready.{isAct, isAction, readyIn, ready}
@@ -26,6 +26,7 @@ use Rattle.course.specs.Several.{AtOnce, severalSteps}
 use Rattle.run.specs.Current.{sayingNow}
 use Rattle.run.specs.Filling.{texts, fitting, stopsAt, written, filling, inBuffers, afterBuffers}
 use Rattle.run.specs.Theorems.{HeldAndStillToSay, TheBuffersHoldTheLines}
+use Rattle.run.proofs.Numbers.{numbers-four}
 use Rattle.run.proofs.Ready.{ready-goes, course-over}
 use Rattle.course.proofs.Way.{Way, toGo, sets-out, way-past, way-several, way-steps, past-nearer, several-nearer, steps-nearer, at-event, at-action, at-ceiling, at-items-end}
 use Rattle.run.proofs.Fills.{stopsIn, stops-fits, stops-full, written-fits, written-full, fewer-lines}
@@ -112,7 +113,7 @@ arrives ceiling schedule run = next-by ceiling schedule run (run .over) refl
 pub record Leaves (ceiling : ℕ) (schedule : List ℕ) (room : ℕ) (whole : Course) : Type 0 where
   pub all-lines : written room whole ++ texts (course ceiling schedule (stopsIn room whole) .lines) ≡ texts (whole .lines)
   pub no-more : length (course ceiling schedule (stopsIn room whole) .lines) ≤ length (whole .lines)
-  pub fewer : 65 ≤ room → stopsIn room whole .over ≡ false → length (course ceiling schedule (stopsIn room whole) .lines) < length (whole .lines)
+  pub fewer : 107 ≤ room → stopsIn room whole .over ≡ false → length (course ceiling schedule (stopsIn room whole) .lines) < length (whole .lines)
 
 not-both : {A : Type 0} → (b : Bool) → b ≡ true → b ≡ false → A
 not-both b t f = absurd (subst T (sym t ∙ f) tt)
@@ -137,7 +138,7 @@ leaves-full ceiling schedule room l run after rest e full =
     record {
       all-lines = rw (stop, written-full room l run after rest full, e) refl;
       no-more = rw (stop, e) (omega arith);
-      fewer = λ enough f. absurd (omega (arith, enough, full, line-length-most (l .steps) (l .letter) (l .first) (l .second)));
+      fewer = λ enough f. absurd (omega (arith, enough, full, line-length-most (l .steps) (l .letter) (numbersOf l) (numbers-four l)));
     }
 
 leaves-fits : (ceiling : ℕ) (schedule : List ℕ) (room : ℕ) (l : Line) (run after : Run) (rest : Course) → Leaves ceiling schedule (room - length (text l)) rest
@@ -210,8 +211,8 @@ buffers-hold-all ceiling schedule rooms run o =
     ∙ ap (λ (c : Course). inBuffers ceiling schedule rooms run ++ texts (c .lines)) (sym (course-over ceiling schedule (afterBuffers ceiling schedule rooms run) o))
     ∙ buffers-hold ceiling schedule rooms run
 
--- a buffer of 65 bytes or more brings a run nearer to its end: the measure of a loop that fills buffers
-pub buffer-nearer : (ceiling : ℕ) (schedule : List ℕ) (room : ℕ) (run : Run) → 65 ≤ room → filling room (course ceiling schedule run) .run .over ≡ false
+-- a buffer of 107 bytes or more brings a run nearer to its end: the measure of a loop that fills buffers
+pub buffer-nearer : (ceiling : ℕ) (schedule : List ℕ) (room : ℕ) (run : Run) → 107 ≤ room → filling room (course ceiling schedule run) .run .over ≡ false
     → length (course ceiling schedule (filling room (course ceiling schedule run) .run) .lines) < length (course ceiling schedule run .lines)
 unfolding filling
 buffer-nearer ceiling schedule room run enough o = leaves ceiling schedule room run .fewer enough o

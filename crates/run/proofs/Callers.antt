@@ -25,7 +25,7 @@ used-within buffer bytes course answer a b =
     omega (arith, ap (λ (filled : Filled). filled .used) a, ap length b, length-append text (drop (length text) buffer))
 
 pub fewer-left : (ceiling : ℕ) (schedule buffer : List ℕ) (run : Run) (answer : Filled) → answer ≡ filling (length buffer) (course ceiling schedule run)
-    → 65 ≤ length buffer → answer .run .over ≡ false → length (course ceiling schedule (answer .run) .lines) < length (course ceiling schedule run .lines)
+    → 107 ≤ length buffer → answer .run .over ≡ false → length (course ceiling schedule (answer .run) .lines) < length (course ceiling schedule run .lines)
 fewer-left ceiling schedule buffer run answer e enough o =
     let over : filling (length buffer) (course ceiling schedule run) .run .over ≡ false = ap (λ (filled : Filled). filled .run .over) (sym e) ∙ o in
     subst (λ (filled : Filled). length (course ceiling schedule (filled .run) .lines) < length (course ceiling schedule run .lines)) (sym e)

@@ -31,8 +31,8 @@ stays-over ceiling schedule (room ∷ rooms) run o =
     stays-over ceiling schedule rooms (filling room (course ceiling schedule run) .run)
     (ap (λ (c : Course). stopsAt room (c .lines) (c .end) .over) (course-over ceiling schedule run o) ∙ o)
 
--- as many buffers of 65 bytes or more as there are lines
-enough : (ceiling : ℕ) (schedule rooms : List ℕ) (run : Run) → ((place : ℕ) → place < length rooms → 65 ≤ getD rooms place 0)
+-- as many buffers of 107 bytes or more as there are lines
+enough : (ceiling : ℕ) (schedule rooms : List ℕ) (run : Run) → ((place : ℕ) → place < length rooms → 107 ≤ getD rooms place 0)
     → length (course ceiling schedule run .lines) ≤ length rooms → afterBuffers ceiling schedule rooms run .over ≡ true
 unfolding afterBuffers
 enough ceiling schedule [] run large long = go (run .over) refl

@@ -13,7 +13,7 @@ use Rattle.lines.proofs.Laws.{line-length}
 use Rattle.course.specs.declared.Run.{Run}
 use Rattle.wording.specs.declared.Line.{Line}
 use Rattle.run.specs.declared.Saying.{Saying}
-use Rattle.wording.specs.Wording.{text}
+use Rattle.wording.specs.Wording.{numbersOf, text}
 use Rattle.course.specs.Whole.{Course, says, silence, course}
 use Rattle.course.specs.Ready.{ready}
 use Rattle.run.specs.Current.{sayingNow}
@@ -106,7 +106,7 @@ Answers bytes used l n = n ≡ cond (leb (length (text l)) (length bytes - used)
 
 text-some : (l : Line) → 0 < length (text l)
 unfolding text
-text-some l = omega (arith, line-length (l .steps) (l .letter) (l .first) (l .second))
+text-some l = omega (arith, line-length (l .steps) (l .letter) (numbersOf l))
 
 none-fits : (b : Bool) (n m : ℕ) → n ≡ cond b m 0 → n ≡ 0 → 0 < m → b ≡ false
 none-fits true n m e z p = absurd (omega (arith, e))

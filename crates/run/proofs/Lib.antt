@@ -1,5 +1,6 @@
 pub mod Ready
 pub mod Behind
+pub mod Numbers
 pub mod Fills
 pub mod Buffers
 pub mod Along

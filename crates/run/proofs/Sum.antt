@@ -19,7 +19,7 @@ use Rattle.course.specs.declared.Phase.the-variants.{Ended, Cut, Refused}
 use Rattle.course.specs.Standing.{nodesOf, beginning, reachedNext, oneStep, past, stepsItem, actionItem, atEnd, allSaid}
 use Rattle.lines.specs.Line.{line}
 use Rattle.run.specs.Filling.{texts}
-use Rattle.wording.specs.Wording.{text, lineOf, refusalSays}
+use Rattle.wording.specs.Wording.{text, numbersOf, lineOf, refusalSays}
 use Rattle.course.specs.Wording.{eventHere, isEvent, isCut, refusalLine}
 use Rattle.course.specs.Whole.{Course, says, silence, telling, tellingAll, closing, closingAll, manySteps, items, itemsFrom, stepsIn, onItems, onSteps, working, courseIn, course}
 use Rattle.course.proofs.Moves.{AtItems, course-items, withNext}
@@ -158,7 +158,7 @@ unfolding beginning
 refused-phase file e = simp (ne-eqb _ _ e)
 
 pub refused-text : OnlyTheNumberAndPlace
-unfolding fileText says silence texts text refusalLine refusalSays lineOf beginning
+unfolding fileText says silence texts text numbersOf refusalLine refusalSays lineOf beginning
 refused-text ceiling file e = ap (λ (c : Course). texts (c .lines)) (refused-course ceiling file e) ∙ append-nil _
 
 refused-told : (ceiling : ℕ) (file : List ℕ) → (fileNumber file ≡ 0 → ⊥) → told (fileCourse ceiling file .end .phase) ≡ fileTold file
@@ -191,10 +191,10 @@ six-named ceiling file six =
     record {
       place = filePlace file;
       first = six-tells-the-first-bad file six;
-      text = refused-text ceiling file (λ none. omega (arith, none, six)) ∙ ap (λ (n : ℕ). line 0 81 n (filePlace file)) six;
+      text = refused-text ceiling file (λ none. omega (arith, none, six)) ∙ ap (λ (n : ℕ). line 0 81 (n ∷ filePlace file ∷ [])) six;
       result = file-place ceiling file;
     }
 
 pub others-stay-0 : OthersStay0
 others-stay-0 ceiling file refused other =
-    refused-text ceiling file refused ∙ ap (line 0 81 (fileNumber file)) (only-six-tells-a-place file other)
+    refused-text ceiling file refused ∙ ap (λ (n : ℕ). line 0 81 (fileNumber file ∷ n ∷ [])) (only-six-tells-a-place file other)

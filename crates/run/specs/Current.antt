@@ -1,6 +1,6 @@
 -- What a run says where it stands, without a step or an item more, and how it stands afterwards.
 use Prim.Native.Nat.{ℕ}
-use mathlib.Core.Bool.{cond}
+use mathlib.Core.Bool.{false, cond}
 use mathlib.Core.List.{List}
 use lib.Dec.{ltb}
 use Rattle.items.specs.declared.Item.{Item}
@@ -18,7 +18,7 @@ use Rattle.run.specs.declared.Saying.{Saying}
 
 -- where there is none to say
 unfoldable pub noLine : Line
-noLine = record { steps = 0; letter = 0; first = 0; second = 0 }
+noLine = record { steps = 0; letter = 0; first = 0; second = 0; long = false; third = 0; fourth = 0 }
 
 -- a line and the run after it
 unfoldable pub saying : Line → Run → Saying

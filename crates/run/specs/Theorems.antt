@@ -2,7 +2,7 @@
 use Prim.Native.Nat.{ℕ, _+_, _*_, _^_, _≤_, _<_, min}
 use mathlib.Core.Path.{_≡_}
 use mathlib.Core.Bool.{true}
-use mathlib.Core.List.{List, _++_}
+use mathlib.Core.List.{List, [], _∷_, _++_}
 use lib.Dec.{ltb}
 use lib.ListN.{length, getD, take}
 use Rattle.nightfile.specs.File.{scheduleBody, fileNumber, filePlace, schedulePart}
@@ -27,7 +27,7 @@ CutAboveTheCeiling =
 -- "A refused file gives only "0 Q number 0"."; 02, item 3: "The Q line's last number becomes that place for 6"
 abbrev pub OnlyTheNumberAndPlace : Type 0
 OnlyTheNumberAndPlace =
-    (ceiling : ℕ) (file : List ℕ) → (fileNumber file ≡ 0 → ⊥) → fileText ceiling file ≡ line 0 81 (fileNumber file) (filePlace file)
+    (ceiling : ℕ) (file : List ℕ) → (fileNumber file ≡ 0 → ⊥) → fileText ceiling file ≡ line 0 81 (fileNumber file ∷ filePlace file ∷ [])
 
 -- the result has the file's number, 0 where the file is accepted, and its place, 0 where none is told
 abbrev pub TheNumberInTheResult : Type 0
@@ -40,7 +40,7 @@ ThePlaceInTheResult = (ceiling : ℕ) (file : List ℕ) → fileOutcome ceiling 
 pub record NamesTheFirstBad (ceiling : ℕ) (file : List ℕ) : Type 0 where
   pub place : ℕ
   pub first : IsFirstBad (scheduleBody file) place
-  pub text : fileText ceiling file ≡ line 0 81 6 place
+  pub text : fileText ceiling file ≡ line 0 81 (6 ∷ place ∷ [])
   pub result : fileOutcome ceiling file .place ≡ place
 
 abbrev pub SixNamesTheFirstBad : Type 0
@@ -50,7 +50,7 @@ SixNamesTheFirstBad = (ceiling : ℕ) (file : List ℕ) → fileNumber file ≡ 
 abbrev pub OthersStay0 : Type 0
 OthersStay0 =
     (ceiling : ℕ) (file : List ℕ) → (fileNumber file ≡ 0 → ⊥) → (fileNumber file ≡ 6 → ⊥)
-    → fileText ceiling file ≡ line 0 81 (fileNumber file) 0
+    → fileText ceiling file ≡ line 0 81 (fileNumber file ∷ 0 ∷ [])
 
 -- buffers of any sizes, filled one after the other from any run: what they hold and what is still to be said are the run's lines
 abbrev pub HeldAndStillToSay : Type 0
@@ -76,10 +76,10 @@ TheBuffersHoldTheFile =
     (ceiling : ℕ) (file rooms : List ℕ) → afterBuffers ceiling (schedulePart file) rooms (beginning file) .over ≡ true
     → inBuffers ceiling (schedulePart file) rooms (beginning file) ≡ fileText ceiling file
 
--- and it does come to be over: as many buffers as the file has lines are enough, if each has room for any line, which is 65 bytes
+-- and it does come to be over: as many buffers as the file has lines are enough, if each has room for any line, which is 107 bytes
 abbrev pub EnoughBuffersEndTheRun : Type 0
 EnoughBuffersEndTheRun =
-    (ceiling : ℕ) (file rooms : List ℕ) → ((place : ℕ) → place < length rooms → 65 ≤ getD rooms place 0)
+    (ceiling : ℕ) (file rooms : List ℕ) → ((place : ℕ) → place < length rooms → 107 ≤ getD rooms place 0)
     → length (fileCourse ceiling file .lines) ≤ length rooms → afterBuffers ceiling (schedulePart file) rooms (beginning file) .over ≡ true
 
 -- the counts of a run have 64 bits, and one that is at its top, 2 ^ 64 - 1, stays there (tally, `more` and `addUp`). At the end of a run they are

@@ -131,6 +131,9 @@ fn no_saying(run: Run) -> Saying
         letter: 0,
         first: 0,
         second: 0,
+        long: false,
+        third: 0,
+        fourth: 0,
     };
     Saying {
         line: line,
@@ -163,13 +166,21 @@ fn answer_saying(run: Run, schedule: &[u8]) -> Saying
     }
 }
 
-// A lock's line, with its busy steps.
+// A lock's line, with its busy steps, its grants and its N events.
 fn lock_saying(run: Run) -> Saying
     requires { ⌜ run .next < 255 ⌝ }
     ensures { λ r. ⌜ r ≡ saying (lockLine run) (past run) ⌝ }
 {
     let busy = run.reached.tally.busy;
-    let line = wording::lock_line(run.reached.steps, run.next, count_of(busy, run.next));
+    let grants = run.reached.tally.grants;
+    let failed = run.reached.tally.failed;
+    let line = wording::lock_line(
+        run.reached.steps,
+        run.next,
+        count_of(busy, run.next),
+        count_of(grants, run.next),
+        count_of(failed, run.next),
+    );
     let after = past(run);
     Saying {
         line: line,

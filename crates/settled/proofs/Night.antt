@@ -30,6 +30,8 @@ lines =
       written-number = (λ a. tt, λ a x y d e. same);
       write-line-buffer = λ κ a x y d e p q. same (p .1) (q .1);
       write-line = λ κ. (λ a. tt, λ a x y d e p q. written-apart x y (same (p .0) (q .0)));
+      write-row-buffer = λ κ a x y d e p q. same (p .1) (q .1);
+      write-row = λ κ. (λ a. tt, λ a x y d e p q. written-apart x y (same (p .0) (q .0)));
     }
 
 pub wording : Wording

@@ -17,6 +17,7 @@ use Rattle.items.proofs.place_at.Reads as place-at
 use Rattle.items.proofs.Cursor.read.Reads as read
 use Rattle.lines.proofs.written_number.Reads as written-number
 use Rattle.lines.proofs.write_line.Reads as write-line
+use Rattle.lines.proofs.write_row.Reads as write-row
 use Rattle.wording.proofs.action_line.Reads as action-line
 use Rattle.wording.proofs.refused_line.Reads as refused-line
 use Rattle.wording.proofs.event_line.Reads as event-line
@@ -54,8 +55,10 @@ pub record Items : Type 0 where
 -- lines
 pub record Lines : Type 0 where
   pub written-number : Settled (written-number.Asked tt) (written-number.Learnt tt)
-  pub write-line-buffer : (κ : Lfts 1) → OneTold (λ r e. now (e .0)) (write-line.Learnt κ)
-  pub write-line : (κ : Lfts 1) → Settled (write-line.Asked κ) (write-line.Learnt κ)
+  pub write-line-buffer : (κ : Lfts 2) → OneTold (λ r e. now (e .0)) (write-line.Learnt κ)
+  pub write-line : (κ : Lfts 2) → Settled (write-line.Asked κ) (write-line.Learnt κ)
+  pub write-row-buffer : (κ : Lfts 2) → OneTold (λ r e. now (e .0)) (write-row.Learnt κ)
+  pub write-row : (κ : Lfts 2) → Settled (write-row.Asked κ) (write-row.Learnt κ)
 
 -- wording
 pub record Wording : Type 0 where

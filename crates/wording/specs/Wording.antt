@@ -1,7 +1,8 @@
--- 01, "The run and its lines": the words of each line. "Each line: steps done, letter, two numbers".
+-- 01, "The run and its lines": the words of each line. "Each line: steps done, letter, two numbers"; 02, item 13: "Each H line must end with
+-- two more numbers".
 use Prim.Native.Nat.{ℕ, _+_}
-use mathlib.Core.Bool.{Bool, cond}
-use mathlib.Core.List.{List}
+use mathlib.Core.Bool.{Bool, true, false, cond}
+use mathlib.Core.List.{List, [], _∷_}
 use Rattle.acts.specs.declared.Action.{Action}
 use Rattle.acts.specs.declared.Action.the-variants.{Take, Release, Force}
 use Rattle.turns.specs.declared.Event.{Event}
@@ -11,11 +12,16 @@ use Rattle.wording.specs.declared.Line.{Line}
 
 -- the line with this letter and these two numbers, after so many steps
 unfoldable pub lineOf : ℕ → ℕ → ℕ → ℕ → Line
-lineOf steps letter first second = record { steps = steps; letter = letter; first = first; second = second }
+lineOf steps letter first second =
+    record { steps = steps; letter = letter; first = first; second = second; long = false; third = 0; fourth = 0 }
+
+-- a line's numbers in order: two, or four of a long one
+unfoldable pub numbersOf : Line → List ℕ
+numbersOf l = l .first ∷ l .second ∷ cond (l .long) (l .third ∷ l .fourth ∷ []) []
 
 -- a line as it is written
 unfoldable pub text : Line → List ℕ
-text l = line (l .steps) (l .letter) (l .first) (l .second)
+text l = line (l .steps) (l .letter) (numbersOf l)
 
 -- "T, R, F: accepted take, release, force, with node and lock."
 unfoldable pub actionLetter : Action → ℕ
@@ -34,9 +40,10 @@ refusedSays steps number place = lineOf steps 88 number place
 unfoldable pub eventSays : ℕ → ℕ → Event → Line
 eventSays steps place event = lineOf steps (eventLetter event) (place + 1) (eventLock event)
 
--- "one H line a lock ascending: lock and busy steps"
-unfoldable pub lockSays : ℕ → ℕ → ℕ → Line
-lockSays steps lock busy = lineOf steps 72 lock busy
+-- "one H line a lock ascending: lock and busy steps"; 02: "two more numbers, the lock's grants and N events"
+unfoldable pub lockSays : ℕ → ℕ → ℕ → ℕ → ℕ → Line
+lockSays steps lock busy grants failed =
+    record { steps = steps; letter = 72; first = lock; second = busy; long = true; third = grants; fourth = failed }
 
 -- "Last E, or C where the schedule's sum is above the ceiling: grants and N events."
 unfoldable pub endLetter : Bool → ℕ

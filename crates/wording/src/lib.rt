@@ -1,15 +1,18 @@
-// The words of each line of a run: its letter and its two numbers, by what it tells.
+// The words of each line of a run: its letter and its numbers, by what it tells.
 ghost use mathlib.Core.Path.{_≡_};
 ghost use Rattle.wording.specs.Wording.{lineOf, actionLetter, actionSays, refusedSays, eventSays, lockSays, endLetter, lastSays, refusalSays};
 use acts::Action;
 use turns::Event;
 
-// A line: steps done, letter, two numbers.
+// A line: steps done, letter, two numbers, and two more where it is long.
 pub struct Line {
     pub steps: u64,
     pub letter: u8,
     pub first: u64,
     pub second: u64,
+    pub long: bool,
+    pub third: u64,
+    pub fourth: u64,
 }
 
 // The line with this letter and these two numbers, after so many steps.
@@ -21,6 +24,9 @@ fn line_of(steps: u64, letter: u8, first: u64, second: u64) -> Line
         letter: letter,
         first: first,
         second: second,
+        long: false,
+        third: 0,
+        fourth: 0,
     }
 }
 
@@ -61,11 +67,19 @@ pub fn event_line(steps: u64, place: u8, event: Event) -> Line
     )
 }
 
-// A lock and its busy steps: H.
-pub fn lock_line(steps: u64, lock: u8, busy: u64) -> Line
-    ensures { λ r. ⌜ r ≡ lockSays steps lock busy ⌝ }
+// A lock, its busy steps, its grants and its N events: H, a long line.
+pub fn lock_line(steps: u64, lock: u8, busy: u64, grants: u64, failed: u64) -> Line
+    ensures { λ r. ⌜ r ≡ lockSays steps lock busy grants failed ⌝ }
 {
-    line_of(steps, b'H', lock as u64, busy)
+    Line {
+        steps: steps,
+        letter: b'H',
+        first: lock as u64,
+        second: busy,
+        long: true,
+        third: grants,
+        fourth: failed,
+    }
 }
 
 // The letter of the last line: C where the run was cut at the ceiling.
