@@ -1,20 +1,17 @@
 // Night files and their lines: for each argument NAME the night file NAME.bin is run, and its lines are compared with those of
 // NAME.txt, every byte and the length. The lines of data/ were written by another model of 01.
 mod comparing;
-mod reading;
-
-use libc::STDOUT_FILENO;
 
 // Whether the case that an argument names agrees. What cannot be opened or read differs. So does a text that fills its buffer,
 // since there may be more of it.
 fn case_agrees(argument: usize) -> bool {
     let mut file_buffer = io::large_buffer();
-    let file = reading::read_case(argument, b".bin", &mut file_buffer);
+    let file = casefiles::read_case(argument, b".bin", &mut file_buffer);
     if file.failed {
         return false;
     }
     let mut text_buffer = io::large_buffer();
-    let text = reading::read_case(argument, b".txt", &mut text_buffer);
+    let text = casefiles::read_case(argument, b".txt", &mut text_buffer);
     if text.failed {
         return false;
     }
@@ -26,26 +23,11 @@ fn case_agrees(argument: usize) -> bool {
     comparing::file_agrees(&file_buffer[..file_length], &text_buffer[..text_length])
 }
 
-// Writes how one case ended, and answers with it.
+// Shows how one case ended, and answers with it.
 fn show_case(argument: usize) -> bool {
     let agrees = case_agrees(argument);
-    let mut name = io::buffer();
-    let length = os::arg(argument, &mut name);
-    io::write_all(STDOUT_FILENO, &name[..length]);
-    if agrees {
-        io::write_all(STDOUT_FILENO, b" agrees\n");
-    } else {
-        io::write_all(STDOUT_FILENO, b" differs\n");
-    }
+    casefiles::show_result(argument, agrees);
     agrees
-}
-
-// Writes how many cases agree, and of how many.
-fn show_total(agreed: usize, tried: usize) {
-    io::print_decimal(STDOUT_FILENO, agreed as u64);
-    io::write_all(STDOUT_FILENO, b" of ");
-    io::print_decimal(STDOUT_FILENO, tried as u64);
-    io::write_all(STDOUT_FILENO, b" agree\n");
 }
 
 fn main() {
@@ -60,5 +42,5 @@ fn main() {
             argument += 1;
         }
     }
-    show_total(agreed, argument - 1);
+    casefiles::show_total(agreed, argument - 1);
 }

@@ -26,7 +26,7 @@ use Rattle.course.specs.Whole.{Course, says, telling, tellingAll, closin
 use Rattle.course.proofs.Found.{items-found, items-none}
 
 -- an action keeps the plan
-acting-plan : (action : Action) (state : State) (node lock : ℕ) → acting action state node lock .state .plan ≡ state .plan
+pub acting-plan : (action : Action) (state : State) (node lock : ℕ) → acting action state node lock .state .plan ≡ state .plan
 unfolding acting handedBack actedState
 acting-plan action state node lock =
     by-test (λ (t : Told). t .state .plan ≡ state .plan) (sound state)

@@ -205,6 +205,10 @@ spaced-length-most (n ∷ rest) =
 pub line-length-most : (steps letter : ℕ) (numbers : List ℕ) → length numbers ≤ 4 → length (line steps letter numbers) ≤ 107
 line-length-most steps letter numbers h = omega (arith, line-length steps letter numbers, decimal-length-most steps, spaced-length-most numbers)
 
+-- and one of 105 bytes for every row of at most five, its first among them
+pub row-length-most : (first : ℕ) (numbers : List ℕ) → length numbers ≤ 4 → length (row first numbers) ≤ 105
+row-length-most first numbers h = omega (arith, row-length first numbers, decimal-length-most first, spaced-length-most numbers)
+
 -- ---- a line as a run of stores
 
 -- a run of stores in two parts
@@ -215,7 +219,7 @@ sets-append (a ∷ s) t l i =
     rw e (sets-append s t (set l i a) (suc i))
 
 -- a run of stores from the start is the run and what was behind it
-sets-front : (s l : List ℕ) → length s ≤ length l → sets l 0 s ≡ s ++ drop (length s) l
+pub sets-front : (s l : List ℕ) → length s ≤ length l → sets l 0 s ≡ s ++ drop (length s) l
 sets-front s l h = simp zero-add at (sets-eq s l 0 (simp zero-add h))
 
 -- bytes put at a place: the buffer after, and the place behind them

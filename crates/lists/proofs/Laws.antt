@@ -4,7 +4,7 @@ use mathlib.Core.Path.{_≡_, refl, _∙_, ap, ap₂, sym}
 use mathlib.Core.Bool.{Bool, true, false, _&&_, _||_, or-true, true≢false}
 use native.Mathlib.Numerals.{add-one}
 use mathlib.Core.Logic.{_⊎_, inl, inr, ⊎-elim}
-use native.Mathlib.Nat.{not-suc-le-zero, eq-or-lt-of-le, mul-suc}
+use native.Mathlib.Nat.{not-suc-le-zero, eq-or-lt-of-le, mul-suc, mul-add}
 use native.Mathlib.Omega.{arith}
 use Rattle.lists.specs.Loops.{every, some, total, iterate, inOrder}
 
@@ -80,6 +80,17 @@ unfolding some
 some-same f g zero e = refl
 some-same f g (suc n) e = ap₂ (λ (a b : Bool). a || b) (some-same f g n (λ k l. e k (omega arith))) (e n (omega arith))
 
+pub every-same : (f g : ℕ → Bool) (n : ℕ) → ((k : ℕ) → k < n → f k ≡ g k) → every f n ≡ every g n
+unfolding every
+every-same f g zero e = refl
+every-same f g (suc n) e = ap₂ (λ (a b : Bool). a && b) (every-same f g n (λ k l. e k (omega arith))) (e n (omega arith))
+
+-- two sums with the same terms
+pub total-same : (f g : ℕ → ℕ) (n : ℕ) → ((k : ℕ) → k < n → f k ≡ g k) → total f n ≡ total g n
+unfolding total
+total-same f g zero e = refl
+total-same f g (suc n) e = ap₂ (λ (a b : ℕ). a + b) (total-same f g n (λ k l. e k (omega arith))) (e n (omega arith))
+
 -- a place below n + 1 is below n, or n itself
 last-or-below : {k n : ℕ} → k < suc n → (k < n) ⊎ (k ≡ n)
 last-or-below h = ⊎-elim (λ e. inr e) (λ l. inl l) (eq-or-lt-of-le (omega arith))
@@ -132,6 +143,12 @@ pub total-at-most : (f : ℕ → ℕ) (b n : ℕ) → ((k : ℕ) → k < n → f
 unfolding total
 total-at-most f b zero h = omega arith
 total-at-most f b (suc n) h = omega (arith, mul-suc b n, total-at-most f b n (λ k l. h k (omega arith)), h n (omega arith))
+
+-- a sum of terms, none of them over m times that of another sum
+pub total-at-most-times : (f g : ℕ → ℕ) (m n : ℕ) → ((k : ℕ) → k < n → f k ≤ m * g k) → total f n ≤ m * total g n
+unfolding total
+total-at-most-times f g m zero h = omega arith
+total-at-most-times f g m (suc n) h = omega (arith, mul-add m (total g n) (g n), total-at-most-times f g m n (λ k l. h k (omega arith)), h n (omega arith))
 
 -- the sum over more places is no smaller
 pub total-monotone : (f : ℕ → ℕ) (m n : ℕ) → m ≤ n → total f m ≤ total f n

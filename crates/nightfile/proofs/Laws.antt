@@ -125,6 +125,10 @@ pub plan-shown : (file : List ℕ) → fileNumber file ≡ 0 → planPart file �
 unfolding planPart ifAccepted
 plan-shown file e = rw e
 
+-- and its plan is in range
+pub plan-in-range : (file : List ℕ) → fileNumber file ≡ 0 → inRange (planOf (planPart file)) ≡ true
+plan-in-range file e = ap (λ (body : List ℕ). inRange (planOf body)) (plan-shown file e) ∙ accepted file e .in-range
+
 -- where a part lies: of an accepted file behind the file's start, of a refused one at it
 pub part-place : (place : ℕ × ℕ) (file : List ℕ) (start at : ℕ) → eqb (fileNumber file) 0 ≡ true → start ≡ at → (place .0, start + place .1) ≡ partAt place file at
 unfolding partAt

@@ -11,8 +11,8 @@ use Rattle.ring.specs.declared.State.{State}
 use Rattle.ring.specs.State.{startOf, startState}
 use Rattle.tally.specs.Tally.{emptyTally, noCounts}
 use Rattle.tally.proofs.Small.{none-busy}
-use Rattle.nightfile.specs.File.{fileNumber, planOf, schedulePart}
-use Rattle.nightfile.proofs.Laws.{accepted, plan-shown}
+use Rattle.nightfile.specs.File.{fileNumber, schedulePart}
+use Rattle.nightfile.proofs.Laws.{plan-in-range as part-in-range}
 use Rattle.course.specs.Standing.{nodesOf, beginning, reachedNext, actionItem}
 use Rattle.course.specs.Whole.{tellingAll, manySteps, itemsFrom, onItems, onSteps, working}
 use Rattle.run.specs.Outcomes.{outcomeOf, fileCourse, fileOutcome}
@@ -30,7 +30,7 @@ use Rattle.nightlock.proofs.Courses.{At, at-same, standing, Goes, none,
 -- the plan of an accepted file is in range
 pub plan-in-range : (file : List ℕ) → fileNumber file ≡ 0 → inRange (planIn file) ≡ true
 unfolding planIn
-plan-in-range file e = ap (λ (body : List ℕ). inRange (planOf body)) (plan-shown file e) ∙ accepted file e .in-range
+plan-in-range file e = part-in-range file e
 
 -- the run of an accepted file begins at its items, with nothing done
 begins-items : (file : List ℕ) → fileNumber file ≡ 0 → AtItems (beginning file)

@@ -25,10 +25,10 @@ use Rattle.run.proofs.Sum.{file-steps, refused-course}
 use Rattle.run.proofs.ShortSum.{sum-short}
 
 -- what has been counted with so many nodes
-record Counted (nodes : ℕ) (reached : Reached) : Type 0 where
-  count : nodeCount (reached .state .plan) ≡ nodes
-  busy : (lock : ℕ) → getD (reached .tally .busy) lock 0 ≤ reached .steps
-  events : eventsIn (reached .tally) ≤ nodes * reached .steps
+pub record Counted (nodes : ℕ) (reached : Reached) : Type 0 where
+  pub count : nodeCount (reached .state .plan) ≡ nodes
+  pub busy : (lock : ℕ) → getD (reached .tally .busy) lock 0 ≤ reached .steps
+  pub events : eventsIn (reached .tally) ≤ nodes * reached .steps
 
 counted-begin : (file : List ℕ) → Counted (nodesOf (beginning file)) (beginning file .reached)
 unfolding beginning nodesOf
@@ -52,7 +52,7 @@ counted-action : (nodes : ℕ) (action : Action) (node lock : ℕ) (run : Run) �
 unfolding actionItem nodesOf
 counted-action nodes action node lock run c = record { count = action-nodes action node lock run ∙ c .count; busy = c .busy; events = c .events }
 
-counted-end : (ceiling : ℕ) (file : List ℕ) → Counted (nodesOf (beginning file)) (fileCourse ceiling file .end .reached)
+pub counted-end : (ceiling : ℕ) (file : List ℕ) → Counted (nodesOf (beginning file)) (fileCourse ceiling file .end .reached)
 unfolding fileCourse says silence allSaid beginning
 counted-end ceiling file =
     let nodes = nodesOf (beginning file) in

@@ -1,5 +1,4 @@
 pub mod Ready
-pub mod Behind
 pub mod Numbers
 pub mod Fills
 pub mod Buffers

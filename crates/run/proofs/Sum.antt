@@ -56,12 +56,12 @@ ends-telling ceiling sum zero run then e = e (run .next)
 ends-telling ceiling sum (suc n) run then e = ends-says ceiling sum (isEvent (eventHere run)) _ (telling n (past run) then) refl (ends-telling ceiling sum n (past run) then e)
 
 -- the lines of the end leave what was reached, and the phase
-closing-reached : (n : ℕ) (run : Run) → closing n run .end .reached ≡ run .reached
+pub closing-reached : (n : ℕ) (run : Run) → closing n run .end .reached ≡ run .reached
 unfolding closing says silence allSaid past
 closing-reached zero run = refl
 closing-reached (suc n) run = closing-reached n (past run)
 
-closing-phase : (n : ℕ) (run : Run) → closing n run .end .phase ≡ run .phase
+pub closing-phase : (n : ℕ) (run : Run) → closing n run .end .phase ≡ run .phase
 unfolding closing says silence allSaid past
 closing-phase zero run = refl
 closing-phase (suc n) run = closing-phase n (past run)
@@ -129,7 +129,7 @@ run-ends ceiling schedule run i most =
 
 -- an accepted file: "the steps it reports are the smaller of the ceiling and the schedule's sum"; "C where the schedule's sum is above
 -- the ceiling"
-beginning-items : (file : List ℕ) → fileNumber file ≡ 0 → AtItems (beginning file)
+pub beginning-items : (file : List ℕ) → fileNumber file ≡ 0 → AtItems (beginning file)
 unfolding beginning
 beginning-items file e = record { not-over = refl; at-items = simp (eq-eqb _ _ e) }
 

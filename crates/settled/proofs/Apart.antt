@@ -30,7 +30,7 @@ pub same : {A : Type 0} {d x y : A} → x ≡ d → y ≡ d → x ≡ y
 same p q = p ∙ sym q
 
 -- f tells apart whatever can be read back
-read-back : {A B : Type 0} (f : A → B) (back : B → A) → ((x : A) → back (f x) ≡ x) → (x y : A) → f x ≡ f y → x ≡ y
+pub read-back : {A B : Type 0} (f : A → B) (back : B → A) → ((x : A) → back (f x) ≡ x) → (x y : A) → f x ≡ f y → x ≡ y
 read-back f back law x y e = sym (law x) ∙ ap back e ∙ law y
 
 -- the answers read back from their numbers

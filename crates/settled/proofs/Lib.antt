@@ -2,4 +2,5 @@ pub mod Apart
 pub mod Stands
 pub mod Model
 pub mod Night
+pub mod Sheet
 pub mod Held

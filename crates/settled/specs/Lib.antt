@@ -1,4 +1,5 @@
 pub mod Settled
 pub mod Model
 pub mod Night
+pub mod Sheet
 pub mod Held

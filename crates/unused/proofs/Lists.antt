@@ -1,4 +1,4 @@
--- Laws of lists and loops: two lists with the same first places, a place put in between, and tests and sums that agree below a number.
+-- Laws of lists and loops: two lists with the same first places, a place put in between, and tests that agree below a number.
 use Prim.Native.Nat.{ℕ, zero, suc, _+_, _≤_, _<_}
 use mathlib.Core.Path.{_≡_, refl, _∙_, sym, ap, ap₂}
 use mathlib.Core.Bool.{Bool, true, false, _&&_}
@@ -9,19 +9,13 @@ use lib.Dec.{ltb}
 use lib.ListN.{length, getD, take, drop, set}
 use lib.Seq.{getD-take, take-suc-set, take-set-lt, take-all}
 use borrow.Author.Tests.{ltb-true, ltb-false}
-use Rattle.lists.specs.Loops.{every, total}
+use Rattle.lists.specs.Loops.{every}
 
 -- two tests that agree at each place below n
 pub every-same : (f g : ℕ → Bool) (n : ℕ) → ((k : ℕ) → k < n → f k ≡ g k) → every f n ≡ every g n
 unfolding every
 every-same f g zero e = refl
 every-same f g (suc n) e = ap₂ (λ (a b : Bool). a && b) (every-same f g n (λ k l. e k (omega arith))) (e n (omega arith))
-
--- two sums whose terms agree
-pub total-same : (f g : ℕ → ℕ) (n : ℕ) → ((k : ℕ) → k < n → f k ≡ g k) → total f n ≡ total g n
-unfolding total
-total-same f g zero e = refl
-total-same f g (suc n) e = ap₂ (λ (a b : ℕ). a + b) (total-same f g n (λ k l. e k (omega arith))) (e n (omega arith))
 
 module _ {A : Type 0} where
   -- lists whose first n places are the same have the same at each of them

@@ -5,6 +5,7 @@ use mathlib.Core.Bool.{Bool, cond, _&&_}
 use lib.Dec.{leb}
 use lib.ListN.{getD}
 use Rattle.lists.specs.Loops.{every}
+use Rattle.lists.proofs.Laws.{total-same}
 use Rattle.cars.specs.Cars.{carNames}
 use Rattle.plan.specs.Plan.{valueAt, valueInRange, placeInRange, headsInRange, inRange, sizeOf, junctionsOf, nodesBefore, junctionsBefore, nodeCount, junctionCount}
 use Rattle.usernode.specs.Sound.{nodeSound}
@@ -16,7 +17,7 @@ use Rattle.ring.specs.declared.State.{State}
 use Rattle.ring.specs.State.{restNode, restJunction}
 use Rattle.ring.specs.Sound.{zeroPasses, nodePasses, junctionPasses, sound}
 use Rattle.unused.specs.Unused.{Agree}
-use Rattle.unused.proofs.Lists.{every-same, total-same, same-at}
+use Rattle.unused.proofs.Lists.{every-same, same-at}
 
 -- the second state with the first one's rules, locks, positions, zero node's car and count
 abbrev pub like : State → State → State

@@ -3,11 +3,6 @@ use Prim.Native.Nat.{_≤_, _<_, _-_}
 use borrow.Author.Needs.{needs}
 use Rattle.cases.proofs.main.Statement.{statement}
 use Rattle.cases.proofs.main.Tie as tie
-use Rattle.cases.proofs.main.Reads as reads
-use Rattle.cases.proofs.main.Lts as lts
-use Rattle.cases.proofs.show_case.Reads as show-case-reads
-use Rattle.cases.proofs.show_total.Reads as show-total-reads
-use Rattle.os.proofs.arg_count.Reads as arg-count-reads
 
 abbrev Inv-loop : tie.InvT-loop
 Inv-loop count agreed₀ argument₀ agreed argument = (1 ≤ argument) × (agreed < argument)

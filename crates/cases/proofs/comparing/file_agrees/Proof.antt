@@ -4,13 +4,6 @@ use Rattle.run.proofs.Callers.{used-within}
 use borrow.Author.Needs.{needs}
 use Rattle.cases.proofs.comparing.file_agrees.Statement.{statement}
 use Rattle.cases.proofs.comparing.file_agrees.Tie as tie
-use Rattle.cases.proofs.comparing.file_agrees.Reads as reads
-use Rattle.cases.proofs.comparing.file_agrees.Lts as lts
-use Rattle.check.proofs.same.Reads as same-reads
-use Rattle.course.proofs.begin.Reads as begin-reads
-use Rattle.io.proofs.large_buffer.Reads as large-buffer-reads
-use Rattle.nightfile.proofs.schedule_part.Reads as schedule-part-reads
-use Rattle.run.proofs.fill.Reads as fill-reads
 
 large-buffer-requires : tie.Need-large-buffer-requires
 large-buffer-requires c κs = search needs

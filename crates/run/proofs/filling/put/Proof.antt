@@ -7,7 +7,7 @@ use lib.ListN.{length, take, drop}
 use Rattle.lines.specs.Line.{line, bufferAfter, writing, writtenLength}
 use Rattle.wording.specs.Wording.{numbersOf, text}
 use Rattle.run.proofs.Numbers.{numbers-four, numbers-taken}
-use Rattle.run.proofs.Behind.{told-length, put-back}
+use Rattle.lines.proofs.Behind.{told-length, put-back}
 use borrow.Author.Needs.{needs}
 use Rattle.run.proofs.filling.put.Statement.{statement}
 use Rattle.run.proofs.filling.put.Tie as tie
@@ -53,8 +53,7 @@ returns c =
     let a = counted .before .before .args in
     let content : line (a .line .steps) (a .line .letter) (take (counted .number-count .result) (a .line .first ∷ a .line .second ∷ a .line .third ∷ a .line .fourth ∷ [])) ≡ text (a .line) =
     ap (line (a .line .steps) (a .line .letter)) (numbers-taken (a .line) (counted .number-count .ensures)) in
-    let part : List ℕ = take (length (a .buffer .now) - a .used) (drop (a .used) (a .buffer .now)) in
-    (
+    let part : List ℕ = take (length (a .buffer .now) - a .used) (drop (a .used) (a .buffer .now)) in (
       sym (ap writtenLength (c .enum-told .given .1)) ∙ told-length _ (a .buffer .now) (text (a .line)) (a .used) (written .ensures .0 ∙ ap (writing part) content),
       put-back (a .buffer .now) _ (text (a .line)) (a .used) (written .ensures .1 ∙ ap (bufferAfter part) content),
     )
@@ -70,8 +69,7 @@ returns-2 c =
     let a = counted .before .before .args in
     let content : line (a .line .steps) (a .line .letter) (take (counted .number-count .result) (a .line .first ∷ a .line .second ∷ a .line .third ∷ a .line .fourth ∷ [])) ≡ text (a .line) =
     ap (line (a .line .steps) (a .line .letter)) (numbers-taken (a .line) (counted .number-count .ensures)) in
-    let part : List ℕ = take (length (a .buffer .now) - a .used) (drop (a .used) (a .buffer .now)) in
-    (
+    let part : List ℕ = take (length (a .buffer .now) - a .used) (drop (a .used) (a .buffer .now)) in (
       sym (ap writtenLength (c .before .written .given .1)) ∙ told-length _ (a .buffer .now) (text (a .line)) (a .used) (written .ensures .0 ∙ ap (writing part) content),
       put-back (a .buffer .now) _ (text (a .line)) (a .used) (written .ensures .1 ∙ ap (bufferAfter part) content),
     )

@@ -1,0 +1,22 @@
+-- `gather::standing::last_read` meets its contract. On each way to a return, the tests and calls on the way choose the case of the definition.
+use borrow.Author.Needs.{needs}
+use Rattle.gather.specs.Gathering.{lastRead}
+use Rattle.gather.proofs.standing.last_read.Statement.{statement}
+use Rattle.gather.proofs.standing.last_read.Tie as tie
+
+start-scan-requires : tie.Need-start-scan-requires
+start-scan-requires c κs = search needs
+
+more-requires : tie.Need-more-requires
+more-requires c κs = search needs
+
+one-run-more-requires : tie.Need-one-run-more-requires
+one-run-more-requires c κs = search needs
+
+returns : tie.Need-returns
+unfolding lastRead
+returns c = simp (c .one-run-more .ensures, c .before .more .ensures, c .before .before .start-scan .ensures)
+
+pub last-read-spec : {M : Type 1} → statement M
+last-read-spec =
+    tie.close (tie.spec start-scan-requires more-requires one-run-more-requires returns)

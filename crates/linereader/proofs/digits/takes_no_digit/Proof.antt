@@ -1,0 +1,13 @@
+-- `linereader::digits::takes_no_digit` meets its contract. On each way to a return, the tests and calls on the way choose the case of the definition.
+use borrow.Author.Needs.{needs}
+use Rattle.linereader.proofs.digits.takes_no_digit.Statement.{statement}
+use Rattle.linereader.proofs.digits.takes_no_digit.Tie as tie
+
+returns : tie.Need-returns
+returns c = simp (c .if1 .taken)
+
+returns-2 : tie.Need-returns-2
+returns-2 c = search needs
+
+pub takes-no-digit-spec : {M : Type 1} → statement M
+takes-no-digit-spec = tie.close (tie.spec returns returns-2)
