@@ -91,17 +91,6 @@ exchanged-back f g n i j x =
       others = λ k below p q. sym (x .others k below p q);
     }
 
--- something read off both
-pub exchanged-read : {A B : Type 0} (read : A → B) (f g : ℕ → A) (n i j : ℕ) → Exchanged f g n i j → Exchanged (λ k. read (f k)) (λ k. read (g k)) n i j
-exchanged-read read f g n i j x =
-    record {
-      i-below = x .i-below;
-      j-below = x .j-below;
-      there = ap read (x .there);
-      back = ap read (x .back);
-      others = λ k below p q. ap read (x .others k below p q);
-    }
-
 -- what holds of each place holds of each after the exchange
 pub each-exchanged : (f g : ℕ → Bool) (n i j : ℕ) → Exchanged f g n i j → every f n ≡ true → every g n ≡ true
 each-exchanged f g n i j x e =

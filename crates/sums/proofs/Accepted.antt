@@ -7,7 +7,7 @@ use native.Mathlib.Omega.{arith}
 use lib.ListN.{length, getD}
 use borrow.Author.Tests.{ltb-false, eq-eqb}
 use Rattle.lists.specs.Refusal.{refusedIf}
-use Rattle.sums.specs.Sheet.{stepsPlace, busyPlace, grantsPlace, failedPlace, runCount, sheetLocks, tooManyRuns, locksRight, runsInRange, sheetNumber, overRuns, shareOf, sheetOf, making}
+use Rattle.sums.specs.Sheet.{stepsPlace, busyPlace, grantsPlace, failedPlace, runCount, sheetLocks, tooManyRuns, locksRight, runsInRange, sheetNumber, overRuns, shareOf, sheetOfFirst, sheetOf, making}
 use Rattle.sums.proofs.Laws.{column-at}
 use Rattle.sums.proofs.Ranges.{locks-few}
 
@@ -40,28 +40,32 @@ module _ (numbers : List ℕ) (none : sheetNumber numbers ≡ 0) where
   unfolding making
   made = simp (eq-eqb (sheetNumber numbers) 0 none)
 
+  pub locks-told : making numbers .sheet .locks ≡ sheetLocks numbers
+  unfolding sheetOf sheetOfFirst overRuns
+  locks-told = ap (λ s. s .locks) made
+
 -- at each lock the sheet's numbers
 module _ (numbers : List ℕ) (none : sheetNumber numbers ≡ 0) (lock : ℕ) (below : lock < sheetLocks numbers) where
   room : lock < 64
   room = omega (arith, few numbers none)
 
   pub busy-at : getD (making numbers .sheet .busy) lock 0 ≡ overRuns numbers (busyPlace + lock)
-  unfolding sheetOf
+  unfolding sheetOf sheetOfFirst overRuns
   busy-at =
       ap (λ s. getD (s .busy) lock 0) (made numbers none) ∙ column-at (λ lock. overRuns numbers (busyPlace + lock)) (sheetLocks numbers) lock below room
 
   pub grants-at : getD (making numbers .sheet .grants) lock 0 ≡ overRuns numbers (grantsPlace + lock)
-  unfolding sheetOf
+  unfolding sheetOf sheetOfFirst overRuns
   grants-at =
       ap (λ s. getD (s .grants) lock 0) (made numbers none) ∙ column-at (λ lock. overRuns numbers (grantsPlace + lock)) (sheetLocks numbers) lock below room
 
   pub failed-at : getD (making numbers .sheet .failed) lock 0 ≡ overRuns numbers (failedPlace + lock)
-  unfolding sheetOf
+  unfolding sheetOf sheetOfFirst overRuns
   failed-at =
       ap (λ s. getD (s .failed) lock 0) (made numbers none) ∙ column-at (λ lock. overRuns numbers (failedPlace + lock)) (sheetLocks numbers) lock below room
 
   pub share-at : getD (making numbers .sheet .share) lock 0 ≡ shareOf (overRuns numbers (busyPlace + lock)) (overRuns numbers stepsPlace)
-  unfolding sheetOf
+  unfolding sheetOf sheetOfFirst overRuns
   share-at =
       ap (λ s. getD (s .share) lock 0) (made numbers none)
       ∙ column-at (λ lock. shareOf (overRuns numbers (busyPlace + lock)) (overRuns numbers stepsPlace)) (sheetLocks numbers) lock below room

@@ -1,6 +1,6 @@
 -- What the tests of the runs give: the locks of runs that are not refused with 25, and the bounds of those that are not refused with 26.
 use Prim.Native.Nat.{ℕ, _+_, _*_, _%_, _≤_, _<_}
-use mathlib.Core.Path.{_≡_}
+use mathlib.Core.Path.{_≡_, refl, sym}
 use mathlib.Core.Bool.{Bool, true, _&&_}
 use mathlib.Core.List.{List}
 use mathlib.Core.Logic.{⊎-elim}
@@ -10,8 +10,8 @@ use lib.ListN.{length, List·getD-eq-default}
 use borrow.Author.Tests.{leb-true, eqb-true}
 use Rattle.lists.specs.Loops.{every}
 use Rattle.lists.proofs.Laws.{and-left, and-right, every-at}
-use Rattle.lists.proofs.Tests.{at-most-or-above}
-use Rattle.sums.specs.Sheet.{stepsPlace, locksPlace, busyPlace, grantsPlace, failedPlace, runCount, numberAt, sheetLocks, locksAlike, locksRight, lockInRange, runInRange, runsInRange}
+use Rattle.lists.proofs.Tests.{by-test, at-most-or-above}
+use Rattle.sums.specs.Sheet.{stepsPlace, locksPlace, busyPlace, grantsPlace, failedPlace, runCount, numberAt, sheetLocks, locksAlike, locksRight, lockInRange, runInRange, locksOfFirst}
 
 -- ---- 25 is not given
 
@@ -24,6 +24,13 @@ pub run-alike : (numbers : List ℕ) (run : ℕ) → locksRight numbers ≡ true
 unfolding locksRight
 run-alike numbers run e below =
     every-at (locksAlike numbers) (runCount numbers) run (and-right (eqb (length numbers % 194) 0) (every (locksAlike numbers) (runCount numbers)) e) below
+
+-- they are the sheet's
+pub run-locks : (numbers : List ℕ) (run : ℕ) → locksRight numbers ≡ true → run < runCount numbers → numberAt numbers locksPlace run ≡ sheetLocks numbers
+unfolding locksAlike
+run-locks numbers run e below =
+    let locks : ℕ = numberAt numbers locksPlace run in
+    eqb-true _ _ (and-right (ltb 0 locks && leb locks 64) (eqb locks (sheetLocks numbers)) (run-alike numbers run e below))
 
 -- no number, no lock
 no-locks : (numbers : List ℕ) → length numbers ≤ 1 → sheetLocks numbers ≡ 0
@@ -38,13 +45,32 @@ first-locks numbers e =
     let same : Bool = eqb (numberAt numbers locksPlace 0) (numberAt numbers locksPlace 0) in
     leb-true _ _ (and-right some few (and-left (some && few) same e))
 
-pub locks-few : (numbers : List ℕ) → locksRight numbers ≡ true → sheetLocks numbers ≤ 64
+-- no run, no lock
+no-run : (numbers : List ℕ) → locksRight numbers ≡ true → runCount numbers ≤ 0 → sheetLocks numbers ≡ 0
 unfolding runCount
+no-run numbers e none = no-locks numbers (omega (arith, rows-whole numbers e))
+
+pub locks-few : (numbers : List ℕ) → locksRight numbers ≡ true → sheetLocks numbers ≤ 64
 locks-few numbers e =
     ⊎-elim
-    (λ none. omega (arith, rows-whole numbers e, no-locks numbers (omega (arith, rows-whole numbers e))))
+    (λ none. omega (arith, no-run numbers e none))
     (λ some. first-locks numbers (run-alike numbers 0 e some))
     (at-most-or-above (runCount numbers) 0)
+
+-- ---- the locks of the first runs
+
+-- at most the sheet's
+pub first-few : (numbers : List ℕ) (runs : ℕ) → locksOfFirst numbers runs ≤ sheetLocks numbers
+unfolding locksOfFirst
+first-few numbers runs = by-test (λ (locks : ℕ). locks ≤ sheetLocks numbers) (eqb runs 0) (λ e. omega arith) (λ e. omega arith)
+
+-- those of all runs are the sheet's
+pub first-all : (numbers : List ℕ) → locksRight numbers ≡ true → locksOfFirst numbers (runCount numbers) ≡ sheetLocks numbers
+unfolding locksOfFirst
+first-all numbers right =
+    by-test (λ (locks : ℕ). locks ≡ sheetLocks numbers) (eqb (runCount numbers) 0)
+    (λ e. sym (no-run numbers right (omega (arith, eqb-true (runCount numbers) 0 e))))
+    (λ e. refl)
 
 -- ---- 26 is not given
 
@@ -66,10 +92,9 @@ lock-fits-by numbers run lock e =
       failed = leb-true _ _ (and-right (busy && grants) failed e);
     }
 
-module _ (numbers : List ℕ) (right : runsInRange numbers ≡ true) (run : ℕ) (below : run < runCount numbers) where
+module _ (numbers : List ℕ) {runs : ℕ} (right : every (runInRange numbers) runs ≡ true) (run : ℕ) (below : run < runs) where
   run-right : runInRange numbers run ≡ true
-  unfolding runsInRange
-  run-right = every-at (runInRange numbers) (runCount numbers) run right below
+  run-right = every-at (runInRange numbers) runs run right below
 
   pub run-steps : numberAt numbers stepsPlace run ≤ 1000000
   unfolding runInRange
@@ -83,15 +108,15 @@ module _ (numbers : List ℕ) (right : runsInRange numbers ≡ true) (run : ℕ)
 
 -- ---- so that no sum overflows: each number that is summed is at most 64,000,000
 
-module _ (numbers : List ℕ) (right : runsInRange numbers ≡ true) where
-  pub steps-small : (run : ℕ) → run < runCount numbers → numberAt numbers 0 run ≤ 64000000
+module _ (numbers : List ℕ) {runs : ℕ} (right : every (runInRange numbers) runs ≡ true) where
+  pub steps-small : (run : ℕ) → run < runs → numberAt numbers 0 run ≤ 64000000
   steps-small run below = omega (arith, run-steps numbers right run below)
 
-  pub busy-small : (lock run : ℕ) → lock < sheetLocks numbers → run < runCount numbers → numberAt numbers (2 + lock) run ≤ 64000000
+  pub busy-small : (lock run : ℕ) → lock < sheetLocks numbers → run < runs → numberAt numbers (2 + lock) run ≤ 64000000
   busy-small lock run l below = omega (arith, run-steps numbers right run below, lock-fits numbers right run below lock l .busy)
 
-  pub grants-small : (lock run : ℕ) → lock < sheetLocks numbers → run < runCount numbers → numberAt numbers (66 + lock) run ≤ 64000000
+  pub grants-small : (lock run : ℕ) → lock < sheetLocks numbers → run < runs → numberAt numbers (66 + lock) run ≤ 64000000
   grants-small lock run l below = omega (arith, run-steps numbers right run below, lock-fits numbers right run below lock l .grants)
 
-  pub failed-small : (lock run : ℕ) → lock < sheetLocks numbers → run < runCount numbers → numberAt numbers (130 + lock) run ≤ 64000000
+  pub failed-small : (lock run : ℕ) → lock < sheetLocks numbers → run < runs → numberAt numbers (130 + lock) run ≤ 64000000
   failed-small lock run l below = omega (arith, run-steps numbers right run below, lock-fits numbers right run below lock l .failed)

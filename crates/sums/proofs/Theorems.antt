@@ -15,26 +15,31 @@ use Rattle.lists.proofs.Tests.{by-test}
 use Rattle.lists.proofs.Places.{place-default}
 use Rattle.lines.specs.Line.{line}
 use Rattle.lines.proofs.Laws.{line-length-most}
-use Rattle.sums.specs.Sheet.{stepsPlace, busyPlace, grantsPlace, failedPlace, runCount, numberAt, sheetLocks, tooManyRuns, locksRight, runsInRange, sheetNumber, overRuns, shareOf, column, emptySheet, sheetOf, sheetAnswerNumber, making}
+use Rattle.sums.specs.Sheet.{stepsPlace, busyPlace, grantsPlace, failedPlace, runCount, numberAt, sheetLocks, tooManyRuns, locksRight, runInRange, runsInRange, sheetNumber, overRuns, shareOf, column, emptySheet, sheetOfFirst, sheetOf, sheetAnswerNumber, making}
 use Rattle.sums.specs.Text.{sheetRows, sheetText}
-use Rattle.sums.specs.Theorems.{TheSumsOfTheRuns, NothingAt, NothingBehindTheLocks, TheShareIsRoundedDown, NoRunsNoSheet, RefusedIsEmpty, TheOrderDoesNotMatter, NothingWraps, RoomForEverySheet}
+use Rattle.sums.specs.Theorems.{TheSumsOfTheRuns, NothingAt, NothingBehindTheLocks, TheShareIsRoundedDown, NoRunsNoSheet, RefusedIsEmpty, TheOrderDoesNotMatter, NothingElseIsRead, NothingWraps, RoomForEverySheet}
 use Rattle.sums.proofs.Laws.{column-behind}
 use Rattle.sums.proofs.Ranges.{run-steps, lock-fits}
-use Rattle.sums.proofs.Accepted.{tests, runs-few, busy-at, grants-at, failed-at, share-at}
+use Rattle.sums.proofs.Accepted.{tests, runs-few, locks-told, busy-at, grants-at, failed-at, share-at}
 use Rattle.sums.proofs.Written.{rows-most}
-use Rattle.sums.proofs.Order.{reordered-same}
+use Rattle.sums.proofs.Order.{reordered-same, nothing-else}
 
 -- ---- the sums
 
 pub the-sums-of-the-runs : TheSumsOfTheRuns
 unfolding overRuns
 the-sums-of-the-runs numbers lock none below =
-    record { busy = busy-at numbers none lock below; grants = grants-at numbers none lock below; failed = failed-at numbers none lock below }
+    record {
+      locks = locks-told numbers none;
+      busy = busy-at numbers none lock below;
+      grants = grants-at numbers none lock below;
+      failed = failed-at numbers none lock below;
+    }
 
 -- ---- behind the locks
 
 nothing-in-sheet : (numbers : List ℕ) (lock : ℕ) → sheetOf numbers .locks ≤ lock → NothingAt (sheetOf numbers) lock
-unfolding sheetOf
+unfolding sheetOf sheetOfFirst
 nothing-in-sheet numbers lock above =
     record {
       busy = column-behind _ (sheetLocks numbers) lock above;
@@ -94,7 +99,7 @@ the-share-is-rounded-down numbers lock none below =
 -- ---- no runs, and a refusal
 
 pub no-runs-no-sheet : NoRunsNoSheet
-unfolding making sheetNumber tooManyRuns locksRight runsInRange refusedIf runCount every sheetOf sheetLocks numberAt column inOrder emptySheet
+unfolding making sheetNumber tooManyRuns locksRight runsInRange refusedIf runCount every sheetOf sheetOfFirst sheetLocks numberAt column inOrder emptySheet
 no-runs-no-sheet = refl
 
 pub refused-is-empty : RefusedIsEmpty
@@ -106,10 +111,14 @@ refused-is-empty numbers some = simp (ne-eqb (sheetNumber numbers) 0 some)
 pub the-order-does-not-matter : TheOrderDoesNotMatter
 the-order-does-not-matter one other r = reordered-same r
 
+pub nothing-else-is-read : NothingElseIsRead
+nothing-else-is-read one other long each = nothing-else one other long each
+
 -- ---- nothing wraps
 
 module _ (numbers : List ℕ) (lock : ℕ) (none : sheetNumber numbers ≡ 0) (below : lock < sheetLocks numbers) where
-  range : runsInRange numbers ≡ true
+  range : every (runInRange numbers) (runCount numbers) ≡ true
+  unfolding runsInRange
   range = tests numbers none .in-range
 
   steps-most : overRuns numbers stepsPlace ≤ 400000000

@@ -1,7 +1,8 @@
 -- 02, item 13, "The monthly sheet": from the numbers of up to 400 runs, per lock and over all runs, busy steps, grants, N events and the busy share;
 -- and the numbers 24, 25 and 26.
-use Prim.Native.Nat.{ℕ, _+_, _*_, _/_, _%_}
-use mathlib.Core.Bool.{Bool, cond, not, _&&_}
+use Prim.Native.Nat.{ℕ, _+_, _*_, _/_, _%_, _≤_}
+use mathlib.Core.Path.{_≡_}
+use mathlib.Core.Bool.{Bool, true, cond, not, _&&_}
 use mathlib.Core.List.{List}
 use lib.Dec.{eqb, ltb, leb}
 use lib.ListN.{length, getD, set, replicate}
@@ -108,15 +109,28 @@ emptySheet =
       share = replicate lockPlaces 0;
     }
 
-unfoldable pub sheetOf : List ℕ → Sheet
-sheetOf numbers =
+-- the sheet of the first runs, with so many locks
+unfoldable pub sheetOfFirst : List ℕ → ℕ → ℕ → Sheet
+sheetOfFirst numbers runs locks =
     record {
-      locks = sheetLocks numbers;
-      busy = column (λ lock. overRuns numbers (busyPlace + lock)) (sheetLocks numbers);
-      grants = column (λ lock. overRuns numbers (grantsPlace + lock)) (sheetLocks numbers);
-      failed = column (λ lock. overRuns numbers (failedPlace + lock)) (sheetLocks numbers);
-      share = column (λ lock. shareOf (overRuns numbers (busyPlace + lock)) (overRuns numbers stepsPlace)) (sheetLocks numbers);
+      locks = locks;
+      busy = column (λ lock. total (numberAt numbers (busyPlace + lock)) runs) locks;
+      grants = column (λ lock. total (numberAt numbers (grantsPlace + lock)) runs) locks;
+      failed = column (λ lock. total (numberAt numbers (failedPlace + lock)) runs) locks;
+      share = column (λ lock. shareOf (total (numberAt numbers (busyPlace + lock)) runs) (total (numberAt numbers stepsPlace) runs)) locks;
     }
+
+-- of all runs
+unfoldable pub sheetOf : List ℕ → Sheet
+sheetOf numbers = sheetOfFirst numbers (runCount numbers) (sheetLocks numbers)
+
+-- the locks of the first runs: of no runs, none
+unfoldable pub locksOfFirst : List ℕ → ℕ → ℕ
+locksOfFirst numbers runs = cond (eqb runs 0) 0 (sheetLocks numbers)
+
+-- so that no sum of theirs overflows: they and their locks are few, and each of them is in range
+abbrev pub Summable : List ℕ → ℕ → Type 0
+Summable numbers runs = (runs ≤ 400) × (locksOfFirst numbers runs ≤ lockPlaces) × (every (runInRange numbers) runs ≡ true)
 
 -- ---- what is answered
 

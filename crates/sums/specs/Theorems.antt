@@ -6,11 +6,13 @@ use lib.ListN.{length, getD}
 use Rattle.lists.specs.Loops.{total}
 use Rattle.sums.specs.declared.Sheet.{Sheet}
 use Rattle.sums.specs.declared.MadeSheet.{MadeSheet}
-use Rattle.sums.specs.Sheet.{runWidth, stepsPlace, busyPlace, grantsPlace, failedPlace, runCount, numberAt, sheetLocks, overRuns, sheetNumber, emptySheet, making}
+use Rattle.sums.specs.Sheet.{lockPlaces, stepsPlace, locksPlace, busyPlace, grantsPlace, failedPlace, runCount, numberAt, sheetLocks, overRuns, sheetNumber, emptySheet, making}
 use Rattle.sums.specs.Text.{sheetRoom, sheetText}
 
--- "Sums equal the sums of the runs": at each lock of the sheet the sum over the runs of the number that the run has for it; 0 behind them
+-- "Sums equal the sums of the runs": the sheet has the runs' locks, and at each the sum over the runs of the number that the run has for it; 0
+-- behind them
 pub record SumsAt (numbers : List ℕ) (lock : ℕ) : Type 0 where
+  pub locks : making numbers .sheet .locks ≡ sheetLocks numbers
   pub busy : getD (making numbers .sheet .busy) lock 0 ≡ total (numberAt numbers (busyPlace + lock)) (runCount numbers)
   pub grants : getD (making numbers .sheet .grants) lock 0 ≡ total (numberAt numbers (grantsPlace + lock)) (runCount numbers)
   pub failed : getD (making numbers .sheet .failed) lock 0 ≡ total (numberAt numbers (failedPlace + lock)) (runCount numbers)
@@ -44,9 +46,14 @@ NoRunsNoSheet = making [] ≡ record { number = 0; sheet = emptySheet }
 abbrev pub RefusedIsEmpty : Type 0
 RefusedIsEmpty = (numbers : List ℕ) → (sheetNumber numbers ≡ 0 → ⊥) → making numbers .sheet ≡ emptySheet
 
--- "the order of runs doesn't change them". A run of one input is a run of another: all its numbers
-abbrev pub SameRun : List ℕ → ℕ → List ℕ → ℕ → Type 0
-SameRun one i other j = (place : ℕ) → place < runWidth → numberAt one place i ≡ numberAt other place j
+-- "the order of runs doesn't change them". A run of one input is a run of another in what is read of it: its steps, its number of locks, and of
+-- each of these locks three numbers
+pub record SameRun (one : List ℕ) (i : ℕ) (other : List ℕ) (j : ℕ) : Type 0 where
+  pub steps : numberAt one stepsPlace i ≡ numberAt other stepsPlace j
+  pub locks : numberAt one locksPlace i ≡ numberAt other locksPlace j
+  pub busy : (lock : ℕ) → lock < numberAt one locksPlace i → lock < lockPlaces → numberAt one (busyPlace + lock) i ≡ numberAt other (busyPlace + lock) j
+  pub grants : (lock : ℕ) → lock < numberAt one locksPlace i → lock < lockPlaces → numberAt one (grantsPlace + lock) i ≡ numberAt other (grantsPlace + lock) j
+  pub failed : (lock : ℕ) → lock < numberAt one locksPlace i → lock < lockPlaces → numberAt one (failedPlace + lock) i ≡ numberAt other (failedPlace + lock) j
 
 -- two runs changed places, all else stayed
 pub record ChangedPlaces (one other : List ℕ) : Type 0 where
@@ -68,6 +75,11 @@ pub data Reordered : List ℕ → List ℕ → Type 0 where
 -- the number that is told and the whole sheet, refused or not
 abbrev pub TheOrderDoesNotMatter : Type 0
 TheOrderDoesNotMatter = (one other : List ℕ) → Reordered one other → making one ≡ making other
+
+-- nothing else is read: not the places behind a run's locks
+abbrev pub NothingElseIsRead : Type 0
+NothingElseIsRead =
+    (one other : List ℕ) → length one ≡ length other → ((run : ℕ) → run < runCount one → SameRun one run other run) → making one ≡ making other
 
 -- why nothing wraps: of runs that are not refused all steps together are at most 400 times 1,000,000; so the largest product, busy steps times
 -- 1,000,000, is at most 4 * 10 ^ 14, and 2 ^ 64 is above 10 ^ 19

@@ -7,7 +7,7 @@ mod writing;
 
 pub use writing::write_sheet;
 ghost use mathlib.Core.Path.{_≡_};
-ghost use Rattle.sums.specs.Sheet.{sheetAnswerNumber, sheetTold, making};
+ghost use Rattle.sums.specs.Sheet.{sheetOfFirst, locksOfFirst, Summable, sheetAnswerNumber, sheetTold, making};
 
 // The numbers of a run.
 pub const RUN_WIDTH: usize = 194;
@@ -53,32 +53,31 @@ pub fn sheet_number(answer: SheetAnswer) -> u8
     }
 }
 
-// The sheet of the runs.
+// An answer with the sheet of the first runs beside it.
+fn with_sheet(answer: SheetAnswer, numbers: &[u64], runs: usize) -> MadeSheet
+    requires { ⌜ Summable (now numbers) runs ⌝ }
+    ensures { λ r. ⌜ sheetTold r ≡ record { number = sheetAnswerNumber answer; sheet = sheetOfFirst (now (numbers .entry)) runs (locksOfFirst (now (numbers .entry)) runs) } ⌝ }
+{
+    let sheet = rows::sheet_of(numbers, runs);
+    MadeSheet {
+        answer: answer,
+        sheet: sheet,
+    }
+}
+
+// The sheet of the runs; that of no runs where they are refused.
 pub fn make_sheet(numbers: &[u64]) -> MadeSheet
     ensures { λ r. ⌜ sheetTold r ≡ making (now (numbers .entry)) ⌝ }
 {
-    let empty = rows::empty_sheet();
+    let runs = numbers.len() / RUN_WIDTH;
     if MOST_NUMBERS < numbers.len() {
-        return MadeSheet {
-            answer: SheetAnswer::TooManyRuns,
-            sheet: empty,
-        };
+        return with_sheet(SheetAnswer::TooManyRuns, numbers, 0);
     }
     if !refusals::locks_right(numbers) {
-        return MadeSheet {
-            answer: SheetAnswer::LocksWrong,
-            sheet: empty,
-        };
+        return with_sheet(SheetAnswer::LocksWrong, numbers, 0);
     }
     if !refusals::runs_in_range(numbers) {
-        return MadeSheet {
-            answer: SheetAnswer::OutOfRange,
-            sheet: empty,
-        };
+        return with_sheet(SheetAnswer::OutOfRange, numbers, 0);
     }
-    let sheet = rows::sheet_of(numbers);
-    MadeSheet {
-        answer: SheetAnswer::Made,
-        sheet: sheet,
-    }
+    with_sheet(SheetAnswer::Made, numbers, runs)
 }

@@ -1,10 +1,9 @@
 // The rows of the runs: the number at a place of a row, its sum over the runs, and the sheet that is made of the sums.
 ghost use Prim.Native.Nat.{ℕ, _+_, _*_, _/_, _^_, _≤_, _<_};
 ghost use mathlib.Core.Path.{_≡_};
-ghost use mathlib.Core.Bool.{true};
-ghost use lib.ListN.{length, getD};
+ghost use lib.ListN.{getD};
 ghost use Rattle.lists.specs.Loops.{total};
-ghost use Rattle.sums.specs.Sheet.{numberAt, sheetLocks, runsInRange, shareOf, column, emptySheet, sheetOf};
+ghost use Rattle.sums.specs.Sheet.{numberAt, shareOf, column, sheetOfFirst, locksOfFirst, Summable};
 use crate::LOCKS;
 use crate::RUN_WIDTH;
 use crate::Sheet;
@@ -93,27 +92,22 @@ fn shares_of(busy: [u64; LOCKS], locks: usize, steps: u64) -> [u64; LOCKS]
     shares
 }
 
-// The sheet of a refusal, and of no runs.
-pub fn empty_sheet() -> Sheet
-    ensures { λ r. ⌜ r ≡ emptySheet ⌝ }
+// The locks of the first runs; none where there is no run.
+fn locks_of(numbers: &[u64], runs: usize) -> u64
+    ensures { λ r. ⌜ r ≡ locksOfFirst (now (numbers .entry)) runs ⌝ }
 {
-    let zeros = [0u64; LOCKS];
-    Sheet {
-        locks: 0,
-        busy: zeros,
-        grants: zeros,
-        failed: zeros,
-        share: zeros,
+    if runs == 0 {
+        return 0;
     }
+    number_at(numbers, 0, LOCKS_PLACE)
 }
 
-// The sheet of runs that are not refused.
-pub fn sheet_of(numbers: &[u64]) -> Sheet
-    requires { ⌜ (length (now numbers) ≤ 77600) × (sheetLocks (now numbers) ≤ 64) × (runsInRange (now numbers) ≡ true) ⌝ }
-    ensures { λ r. ⌜ r ≡ sheetOf (now (numbers .entry)) ⌝ }
+// The sheet of the first runs, all of them in range. Of no runs it is the empty sheet.
+pub fn sheet_of(numbers: &[u64], runs: usize) -> Sheet
+    requires { ⌜ Summable (now numbers) runs ⌝ }
+    ensures { λ r. ⌜ r ≡ sheetOfFirst (now (numbers .entry)) runs (locksOfFirst (now (numbers .entry)) runs) ⌝ }
 {
-    let runs = numbers.len() / RUN_WIDTH;
-    let locks = number_at(numbers, 0, LOCKS_PLACE);
+    let locks = locks_of(numbers, runs);
     let steps = over_runs(numbers, runs, STEPS_PLACE);
     let busy = column_of(numbers, runs, locks as usize, BUSY_PLACE);
     let grants = column_of(numbers, runs, locks as usize, GRANTS_PLACE);
