@@ -1,7 +1,7 @@
 /* The night program in plain C, the yardstick for speed. It reads a night
    file on standard input and writes the run's lines on standard output. Rules
    and names are those of the build paper (01), with busy steps as request 1
-   (02) has them. Refusals 13 to 15 are not tested: from the start state they
+   and H lines as request 13 (02) has them. Refusals 13 to 15 are not tested: from the start state they
    never occur. */
 
 #include <stdbool.h>
@@ -16,7 +16,7 @@ enum {
     POSITIONS_MOST = 16,
     NODES_MOST = 64,
     QUEUE_MOST = 65,
-    LINE_MOST = 40 /* three numbers of at most 10 digits, a letter, spaces, newline */
+    LINE_MOST = 60 /* five numbers of at most 10 digits, a letter, spaces, newline */
 };
 
 enum { RING = 1, MULTIRING = 2 };
@@ -58,8 +58,8 @@ struct run {
     struct zero_node zero;
     struct node nodes[NODES_MOST + 1]; /* numbered from 1 */
     struct junction junctions[POSITIONS_MOST]; /* by position */
-    int steps, grants, fails;
-    int busy[LOCKS_MOST];
+    int steps;
+    int busy[LOCKS_MOST], grants[LOCKS_MOST], fails[LOCKS_MOST];
 };
 
 static const struct car idle_car = {IDLE, 0, 0};
@@ -89,17 +89,34 @@ static void put_number(int number)
         out[out_length++] = digits[--count];
 }
 
-static void line(int steps, char letter, int first, int second)
+static void put_next(int number)
+{
+    out[out_length++] = ' ';
+    put_number(number);
+}
+
+static void begin_line(int steps, char letter, int first, int second)
 {
     if (out_length > sizeof out - LINE_MOST)
         flush();
     put_number(steps);
     out[out_length++] = ' ';
     out[out_length++] = letter;
-    out[out_length++] = ' ';
-    put_number(first);
-    out[out_length++] = ' ';
-    put_number(second);
+    put_next(first);
+    put_next(second);
+}
+
+static void line(int steps, char letter, int first, int second)
+{
+    begin_line(steps, letter, first, second);
+    out[out_length++] = '\n';
+}
+
+static void lock_line(int steps, int lock, int busy, int grants, int fails)
+{
+    begin_line(steps, 'H', lock, busy);
+    put_next(grants);
+    put_next(fails);
     out[out_length++] = '\n';
 }
 
@@ -152,12 +169,12 @@ static struct car own_returns(struct run *run, struct node *node, int number, st
     node->activity = NO_ACTIVITY;
     if (car.kind == REQP) {
         node->held |= bit(car.lock);
-        run->grants++;
+        run->grants[car.lock]++;
         line(run->steps, 'G', number, car.lock);
         if (run->plan.rules == MULTIRING)
             return carrying(GOTP, car.lock, number);
     } else if (car.kind == FAILP) {
-        run->fails++;
+        run->fails[car.lock]++;
         line(run->steps, 'N', number, car.lock);
     } else {
         line(run->steps, 'B', number, car.lock);
@@ -437,9 +454,14 @@ int main(void)
         run.zero.car = token_car;
         const uint8_t *schedule = file + FILE_LEAST + pair(file + 4);
         bool all = do_items(&run, schedule, pair(file + 9) / 3);
-        for (int lock = 0; lock < run.plan.locks; lock++)
-            line(run.steps, 'H', lock, run.busy[lock]);
-        line(run.steps, all ? 'E' : 'C', run.grants, run.fails);
+        int grants = 0, fails = 0;
+        for (int lock = 0; lock < run.plan.locks; lock++) {
+            lock_line(run.steps, lock, run.busy[lock], run.grants[lock],
+                      run.fails[lock]);
+            grants += run.grants[lock];
+            fails += run.fails[lock];
+        }
+        line(run.steps, all ? 'E' : 'C', grants, fails);
     }
     flush();
     return fflush(stdout) != 0 || ferror(stdout) != 0;
