@@ -31,11 +31,11 @@ more count = cond (ltb count (2 ^ 64 - 1)) (count + 1) count
 
 -- ---- how the gathering stands after a line
 
--- the text is no run: the rest stays as it stands before this line
-unfoldable pub faulty : Fault → Gather → Gather
-faulty fault state =
+-- where the reading of the line stands, and the first fault; the rest as it was
+abbrev pub readingAt : Scan → Fault → Gather → Gather
+readingAt scan fault state =
     record {
-      scan = startScan;
+      scan = scan;
       lines = state .lines;
       inside = state .inside;
       locks = state .locks;
@@ -44,60 +44,41 @@ faulty fault state =
       fault = fault;
     }
 
--- a line of an action or an event
-unfoldable pub deedRead : Gather → Gather
-deedRead state =
+-- the text is no run: the rest stays as it stands before this line
+unfoldable pub faulty : Fault → Gather → Gather
+faulty fault state = readingAt startScan fault state
+
+-- one line more: whether a run has begun, its H lines so far, the whole runs, the refused ones
+abbrev pub lineRead : Bool → ℕ → ℕ → ℕ → Gather → Gather
+lineRead inside locks runs refused state =
     record {
       scan = startScan;
       lines = more (state .lines);
-      inside = true;
-      locks = state .locks;
-      runs = state .runs;
-      refused = state .refused;
+      inside = inside;
+      locks = locks;
+      runs = runs;
+      refused = refused;
       fault = state .fault;
     }
 
+-- a line of an action or an event
+unfoldable pub deedRead : Gather → Gather
+deedRead state = lineRead true (state .locks) (state .runs) (state .refused) state
+
 -- an H line
 unfoldable pub lockRead : Gather → Gather
-lockRead state =
-    record {
-      scan = startScan;
-      lines = more (state .lines);
-      inside = true;
-      locks = more (state .locks);
-      runs = state .runs;
-      refused = state .refused;
-      fault = state .fault;
-    }
+lockRead state = lineRead true (more (state .locks)) (state .runs) (state .refused) state
 
 -- an E or C line: the run is whole
 unfoldable pub oneRunMore : ℕ → ℕ
 oneRunMore runs = cond (ltb runs rowsKept) (runs + 1) runs
 
 unfoldable pub lastRead : Gather → Gather
-lastRead state =
-    record {
-      scan = startScan;
-      lines = more (state .lines);
-      inside = false;
-      locks = 0;
-      runs = oneRunMore (state .runs);
-      refused = state .refused;
-      fault = state .fault;
-    }
+lastRead state = lineRead false 0 (oneRunMore (state .runs)) (state .refused) state
 
 -- a Q line: the run was refused, and is left out
 unfoldable pub refusalRead : Gather → Gather
-refusalRead state =
-    record {
-      scan = startScan;
-      lines = more (state .lines);
-      inside = state .inside;
-      locks = state .locks;
-      runs = state .runs;
-      refused = more (state .refused);
-      fault = state .fault;
-    }
+refusalRead state = lineRead (state .inside) (state .locks) (state .runs) (more (state .refused)) state
 
 -- the first of a line's numbers: an H line's lock
 unfoldable pub firstOf : Scan → ℕ
@@ -117,16 +98,7 @@ afterLine Refusal scan state = cond (state .inside) (faulty RefusalInside state)
 
 -- inside a line
 unfoldable pub insideLine : Scan → Gather → Gather
-insideLine scan state =
-    record {
-      scan = scan;
-      lines = state .lines;
-      inside = state .inside;
-      locks = state .locks;
-      runs = state .runs;
-      refused = state .refused;
-      fault = state .fault;
-    }
+insideLine scan state = readingAt scan (state .fault) state
 
 -- by what is read of the line, one byte more included
 unfoldable pub afterPart : Part → Scan → Gather → Gather

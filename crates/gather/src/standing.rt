@@ -3,7 +3,7 @@ ghost use mathlib.Core.Path.{_≡_};
 ghost use mathlib.Core.Bool.{cond};
 ghost use lib.Dec.{eqb};
 ghost use Rattle.gather.specs.declared.Fault.the-variants.{DeedBehindLock, LockOutOfOrder, RefusalInside};
-ghost use Rattle.gather.specs.Gathering.{more, faulty, deedRead, lockRead, oneRunMore, lastRead, refusalRead, firstOf, isNextLock, afterLine, insideLine, afterPart};
+ghost use Rattle.gather.specs.Gathering.{more, readingAt, faulty, lineRead, deedRead, lockRead, oneRunMore, lastRead, refusalRead, firstOf, isNextLock, afterLine, insideLine, afterPart};
 use crate::Fault;
 use crate::Gather;
 use crate::ROWS_KEPT;
@@ -21,11 +21,10 @@ pub(crate) fn more(count: u64) -> u64
     count
 }
 
-// The text is no run.
-fn faulty(fault: Fault, state: Gather) -> Gather
-    ensures { λ r. ⌜ r ≡ faulty fault state ⌝ }
+// Where the reading of the line stands, and the first fault; the rest as it was.
+fn reading_at(scan: Scan, fault: Fault, state: Gather) -> Gather
+    ensures { λ r. ⌜ r ≡ readingAt scan fault state ⌝ }
 {
-    let scan = linereader::start_scan();
     Gather {
         scan: scan,
         lines: state.lines,
@@ -37,38 +36,42 @@ fn faulty(fault: Fault, state: Gather) -> Gather
     }
 }
 
-// After a line of an action or an event.
-fn deed_read(state: Gather) -> Gather
-    ensures { λ r. ⌜ r ≡ deedRead state ⌝ }
+// The text is no run.
+fn faulty(fault: Fault, state: Gather) -> Gather
+    ensures { λ r. ⌜ r ≡ faulty fault state ⌝ }
+{
+    reading_at(linereader::start_scan(), fault, state)
+}
+
+// One line more: whether a run has begun, its H lines so far, the whole runs, the refused ones.
+fn line_read(inside: bool, locks: u64, runs: u64, refused: u64, state: Gather) -> Gather
+    ensures { λ r. ⌜ r ≡ lineRead inside locks runs refused state ⌝ }
 {
     let scan = linereader::start_scan();
     let fault = state.fault;
     Gather {
         scan: scan,
         lines: more(state.lines),
-        inside: true,
-        locks: state.locks,
-        runs: state.runs,
-        refused: state.refused,
+        inside: inside,
+        locks: locks,
+        runs: runs,
+        refused: refused,
         fault: fault,
     }
+}
+
+// After a line of an action or an event.
+fn deed_read(state: Gather) -> Gather
+    ensures { λ r. ⌜ r ≡ deedRead state ⌝ }
+{
+    line_read(true, state.locks, state.runs, state.refused, state)
 }
 
 // After an H line.
 fn lock_read(state: Gather) -> Gather
     ensures { λ r. ⌜ r ≡ lockRead state ⌝ }
 {
-    let scan = linereader::start_scan();
-    let fault = state.fault;
-    Gather {
-        scan: scan,
-        lines: more(state.lines),
-        inside: true,
-        locks: more(state.locks),
-        runs: state.runs,
-        refused: state.refused,
-        fault: fault,
-    }
+    line_read(true, more(state.locks), state.runs, state.refused, state)
 }
 
 // One whole run more, as far as rows are kept.
@@ -85,34 +88,20 @@ fn one_run_more(runs: u64) -> u64
 fn last_read(state: Gather) -> Gather
     ensures { λ r. ⌜ r ≡ lastRead state ⌝ }
 {
-    let scan = linereader::start_scan();
-    let fault = state.fault;
-    Gather {
-        scan: scan,
-        lines: more(state.lines),
-        inside: false,
-        locks: 0,
-        runs: one_run_more(state.runs),
-        refused: state.refused,
-        fault: fault,
-    }
+    line_read(false, 0, one_run_more(state.runs), state.refused, state)
 }
 
 // After a Q line.
 fn refusal_read(state: Gather) -> Gather
     ensures { λ r. ⌜ r ≡ refusalRead state ⌝ }
 {
-    let scan = linereader::start_scan();
-    let fault = state.fault;
-    Gather {
-        scan: scan,
-        lines: more(state.lines),
-        inside: state.inside,
-        locks: state.locks,
-        runs: state.runs,
-        refused: more(state.refused),
-        fault: fault,
-    }
+    line_read(
+        state.inside,
+        state.locks,
+        state.runs,
+        more(state.refused),
+        state,
+    )
 }
 
 // Whether an H line is the next lock's.
@@ -181,15 +170,7 @@ fn inside_line(scan: Scan, state: Gather) -> Gather
     ensures { λ r. ⌜ r ≡ insideLine scan state ⌝ }
 {
     let fault = state.fault;
-    Gather {
-        scan: scan,
-        lines: state.lines,
-        inside: state.inside,
-        locks: state.locks,
-        runs: state.runs,
-        refused: state.refused,
-        fault: fault,
-    }
+    reading_at(scan, fault, state)
 }
 
 // By what is read of the line.

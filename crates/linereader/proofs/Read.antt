@@ -113,19 +113,26 @@ digit-shown false number byte fresh e =
 
 -- ---- each part, one byte more
 
-steps-after : (s : Scan) (byte : ℕ) → s .part ≡ Steps → Holds Steps s → After (readIn Steps s ++ (byte ∷ [])) (onSteps s byte)
-unfolding onSteps digitRead stepsRead wrong
-steps-after s byte p h =
-    by-test (After (readIn Steps s ++ (byte ∷ []))) (isNextDigit (s .begun) (s .number) byte)
-    (λ e. on Steps p
-    (record {
+-- a scan with one digit more
+digit-holds : (part : Part) (s : Scan) (byte : ℕ) → isNextDigit (s .begun) (s .number) byte ≡ true → Holds part s → Placed part (digitRead s byte)
+    → Holds part (digitRead s byte)
+unfolding digitRead
+digit-holds part s byte e h placed =
+    record {
       fresh = λ f. absurd (true≢false f);
       small = next-digit (s .begun) (s .number) byte e .small;
       steps-small = h .steps-small;
       numbers-small = h .numbers-small;
       long = h .long;
-      placed = h .placed;
-    })
+      placed = placed;
+    }
+
+steps-after : (s : Scan) (byte : ℕ) → s .part ≡ Steps → Holds Steps s → After (readIn Steps s ++ (byte ∷ [])) (onSteps s byte)
+unfolding onSteps digitRead stepsRead wrong
+steps-after s byte p h =
+    by-test (After (readIn Steps s ++ (byte ∷ []))) (isNextDigit (s .begun) (s .number) byte)
+    (λ e. on Steps p
+    (digit-holds Steps s byte e h (h .placed))
     (digit-shown (s .begun) (s .number) byte (h .fresh) e))
     (λ e. by-test (After (readIn Steps s ++ (byte ∷ []))) (s .begun && eqb byte 32)
     (λ f. on Letter refl
@@ -251,14 +258,7 @@ unfolding onNumbers digitRead wrong
 numbers-after s byte p h =
     by-test (After (readIn Numbers s ++ (byte ∷ []))) (isNextDigit (s .begun) (s .number) byte)
     (λ e. on Numbers p
-    (record {
-      fresh = λ f. absurd (true≢false f);
-      small = next-digit (s .begun) (s .number) byte e .small;
-      steps-small = h .steps-small;
-      numbers-small = h .numbers-small;
-      long = h .long;
-      placed = h .placed;
-    })
+    (digit-holds Numbers s byte e h (h .placed))
     (ap (λ (l : List ℕ). front ++ (32 ∷ l)) (digit-shown (s .begun) (s .number) byte (h .fresh) e)
     ∙ sym (append-assoc front (32 ∷ shown (s .begun) (s .number)) (byte ∷ []))))
     (λ e. by-test (After (readIn Numbers s ++ (byte ∷ []))) (endsNumber s byte) (λ f. number-after s byte h f) (λ f. no refl))

@@ -55,18 +55,22 @@ isNextDigit begun number byte = isDigit byte && not (begun && eqb number 0) && l
 unfoldable pub startScan : Scan
 startScan = record { part = Steps; begun = false; number = 0; steps = 0; letter = 0; count = 0; numbers = replicate 4 0 }
 
--- no line begins like this
-unfoldable pub wrong : Scan → Scan
-wrong scan =
+-- the part that comes next, and the letter; the rest as it was
+abbrev pub goingOn : Part → ℕ → Scan → Scan
+goingOn part letter scan =
     record {
-      part = Wrong;
+      part = part;
       begun = scan .begun;
       number = scan .number;
       steps = scan .steps;
-      letter = scan .letter;
+      letter = letter;
       count = scan .count;
       numbers = scan .numbers;
     }
+
+-- no line begins like this
+unfoldable pub wrong : Scan → Scan
+wrong scan = goingOn Wrong (scan .letter) scan
 
 -- one digit more of the number at hand
 unfoldable pub digitRead : Scan → ℕ → Scan
@@ -95,29 +99,11 @@ stepsRead scan =
     }
 
 unfoldable pub letterRead : Scan → ℕ → Scan
-letterRead scan byte =
-    record {
-      part = Space;
-      begun = scan .begun;
-      number = scan .number;
-      steps = scan .steps;
-      letter = byte;
-      count = scan .count;
-      numbers = scan .numbers;
-    }
+letterRead scan byte = goingOn Space byte scan
 
 -- the space behind the letter is read, the first number comes next
 unfoldable pub spaceRead : Scan → Scan
-spaceRead scan =
-    record {
-      part = Numbers;
-      begun = scan .begun;
-      number = scan .number;
-      steps = scan .steps;
-      letter = scan .letter;
-      count = scan .count;
-      numbers = scan .numbers;
-    }
+spaceRead scan = goingOn Numbers (scan .letter) scan
 
 -- one number more is read; the line is whole after the last one
 unfoldable pub isLastNumber : Scan → Bool

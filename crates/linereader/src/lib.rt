@@ -9,7 +9,7 @@ ghost use mathlib.Core.Bool.{true, cond, _&&_};
 ghost use mathlib.Core.Path.{_≡_};
 ghost use lib.Dec.{eqb};
 ghost use Rattle.linereader.specs.declared.Part.the-variants.{Whole, Numbers};
-ghost use Rattle.linereader.specs.Reading.{isNextDigit, startScan, wrong, digitRead, stepsRead, letterRead, spaceRead, isLastNumber, numberRead, endsNumber, onSteps, onLetter, onSpace, onNumbers, scanByte};
+ghost use Rattle.linereader.specs.Reading.{isNextDigit, startScan, goingOn, wrong, digitRead, stepsRead, letterRead, spaceRead, isLastNumber, numberRead, endsNumber, onSteps, onLetter, onSpace, onNumbers, scanByte};
 
 // Which lines bear a letter: none; an action's or an event's; a lock's; a run's last; a refused file's.
 pub enum LineKind {
@@ -57,20 +57,27 @@ pub fn start_scan() -> Scan
     }
 }
 
+// The part that comes next, and the letter; the rest as it was.
+fn going_on(part: Part, letter: u8, scan: Scan) -> Scan
+    ensures { λ r. ⌜ r ≡ goingOn part letter scan ⌝ }
+{
+    let numbers = scan.numbers;
+    Scan {
+        part: part,
+        begun: scan.begun,
+        number: scan.number,
+        steps: scan.steps,
+        letter: letter,
+        count: scan.count,
+        numbers: numbers,
+    }
+}
+
 // No line begins like this.
 fn wrong(scan: Scan) -> Scan
     ensures { λ r. ⌜ r ≡ wrong scan ⌝ }
 {
-    let numbers = scan.numbers;
-    Scan {
-        part: Part::Wrong,
-        begun: scan.begun,
-        number: scan.number,
-        steps: scan.steps,
-        letter: scan.letter,
-        count: scan.count,
-        numbers: numbers,
-    }
+    going_on(Part::Wrong, scan.letter, scan)
 }
 
 // One digit more of the number at hand.
@@ -111,32 +118,14 @@ fn steps_read(scan: Scan) -> Scan
 fn letter_read(scan: Scan, byte: u8) -> Scan
     ensures { λ r. ⌜ r ≡ letterRead scan byte ⌝ }
 {
-    let numbers = scan.numbers;
-    Scan {
-        part: Part::Space,
-        begun: scan.begun,
-        number: scan.number,
-        steps: scan.steps,
-        letter: byte,
-        count: scan.count,
-        numbers: numbers,
-    }
+    going_on(Part::Space, byte, scan)
 }
 
 // The space behind the letter is read, the first number comes next.
 fn space_read(scan: Scan) -> Scan
     ensures { λ r. ⌜ r ≡ spaceRead scan ⌝ }
 {
-    let numbers = scan.numbers;
-    Scan {
-        part: Part::Numbers,
-        begun: scan.begun,
-        number: scan.number,
-        steps: scan.steps,
-        letter: scan.letter,
-        count: scan.count,
-        numbers: numbers,
-    }
+    going_on(Part::Numbers, scan.letter, scan)
 }
 
 // Whether the number at hand is the line's last.

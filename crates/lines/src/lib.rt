@@ -103,11 +103,11 @@ fn put_numbers(buffer: &mut [u8], at: usize, numbers: &[u64]) -> usize
     ensures { λ r. ⌜ now (buffer .exit) ≡ sets (now (buffer .entry)) at (spaced (now (numbers .entry))) ⌝ }
 {
     let mut end = at;
-    let mut i = 0;
-    while i < numbers.len() {
+    let mut next = 0;
+    while next < numbers.len() {
         let number_at = put_byte(buffer, end, SPACE);
-        end = put_number(buffer, number_at, numbers[i]);
-        i += 1;
+        end = put_number(buffer, number_at, numbers[next]);
+        next += 1;
     }
     end
 }

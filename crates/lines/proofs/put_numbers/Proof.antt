@@ -23,8 +23,8 @@ loop-holds c = (search needs, put-none (c .before .before .args .buffer .now) (c
 put-byte-requires : tie.Need-put-byte-requires Inv-loop μ-loop
 put-byte-requires c κs =
     let start = c .before .before .before .before .before in
-    let more = spaced-length-more (start .args .numbers .now) (c .before .before .loop .i) (c .before .loop-test .taken) in
-    omega (arith, more, spaced-part (start .args .numbers .now) (c .before .before .loop .i + 1), c .before .before .loop .inv .1 .0, ap length (c .before .before .loop .inv .1 .1), length-sets (start .args .buffer .now) (start .args .at) (spaced (take (c .before .before .loop .i) (start .args .numbers .now))), start .pre)
+    let more = spaced-length-more (start .args .numbers .now) (c .before .before .loop .next) (c .before .loop-test .taken) in
+    omega (arith, more, spaced-part (start .args .numbers .now) (c .before .before .loop .next + 1), c .before .before .loop .inv .1 .0, ap length (c .before .before .loop .inv .1 .1), length-sets (start .args .buffer .now) (start .args .at) (spaced (take (c .before .before .loop .next) (start .args .numbers .now))), start .pre)
 
 mul-put-number : tie.Need-mul-put-number Inv-loop μ-loop
 mul-put-number c = search needs
@@ -37,11 +37,11 @@ put-number-requires c κs =
     let byte = c .before .before .before .before in
     let at-place = byte .before .before .before .loop in
     let start = byte .before .before .before .before .before .before in
-    let more = spaced-length-more (start .args .numbers .now) (at-place .i) (byte .before .before .loop-test .taken) in
-    omega (arith, more, spaced-part (start .args .numbers .now) (at-place .i + 1), at-place .inv .1 .0, ap length (at-place .inv .1 .1), length-sets (start .args .buffer .now) (start .args .at) (spaced (take (at-place .i) (start .args .numbers .now))), start .pre, byte .put-byte .ensures .0, ap length (byte .put-byte .ensures .1), length-set (at-place .buffer) (at-place .end) 32)
+    let more = spaced-length-more (start .args .numbers .now) (at-place .next) (byte .before .before .loop-test .taken) in
+    omega (arith, more, spaced-part (start .args .numbers .now) (at-place .next + 1), at-place .inv .1 .0, ap length (at-place .inv .1 .1), length-sets (start .args .buffer .now) (start .args .at) (spaced (take (at-place .next) (start .args .numbers .now))), start .pre, byte .put-byte .ensures .0, ap length (byte .put-byte .ensures .1), length-set (at-place .buffer) (at-place .end) 32)
 
-add-i : tie.Need-add-i Inv-loop μ-loop
-add-i c = search needs
+add-next : tie.Need-add-next Inv-loop μ-loop
+add-next c = search needs
 
 loop-less : tie.Need-loop-less Inv-loop μ-loop
 loop-less c = search needs
@@ -52,17 +52,17 @@ loop-again c =
     let byte = number .before .before .before .before .before in
     let at-place = byte .before .before .before .loop in
     let start = byte .before .before .before .before .before .before in
-    (search needs, put-another (start .args .buffer .now) (start .args .at) (start .args .numbers .now) (at-place .i) (byte .before .before .loop-test .taken) (at-place .inv .1) (byte .put-byte .ensures) (number .put-number .ensures))
+    (search needs, put-another (start .args .buffer .now) (start .args .at) (start .args .numbers .now) (at-place .next) (byte .before .before .loop-test .taken) (at-place .inv .1) (byte .put-byte .ensures) (number .put-number .ensures))
 
 same-length : tie.Need-same-length Inv-loop μ-loop
 same-length c =
     let a = c .before .before .before .before .args in
-    ap length (c .before .loop .inv .1 .1) ∙ length-sets (a .buffer .now) (a .at) (spaced (take (c .before .loop .i) (a .numbers .now)))
+    ap length (c .before .loop .inv .1 .1) ∙ length-sets (a .buffer .now) (a .at) (spaced (take (c .before .loop .next) (a .numbers .now)))
 
 returns : tie.Need-returns Inv-loop μ-loop
 returns c =
     let a = c .before .before .before .before .args in
-    rw (← spaced-all (a .numbers .now) (c .before .loop .i) (c .loop-test .left)) (c .before .loop .inv .1)
+    rw (← spaced-all (a .numbers .now) (c .before .loop .next) (c .loop-test .left)) (c .before .loop .inv .1)
 
 pub put-numbers-spec : {M : Type 1} → statement M
 put-numbers-spec =
@@ -75,7 +75,7 @@ put-numbers-spec =
     mul-put-number
     shared-slice-read-put-number
     put-number-requires
-    add-i
+    add-next
     loop-less
     loop-again
     same-length

@@ -4,15 +4,12 @@ use Rattle.gather.specs.Gathering.{deedRead}
 use Rattle.gather.proofs.standing.deed_read.Statement.{statement}
 use Rattle.gather.proofs.standing.deed_read.Tie as tie
 
-start-scan-requires : tie.Need-start-scan-requires
-start-scan-requires c κs = search needs
-
-more-requires : tie.Need-more-requires
-more-requires c κs = search needs
+line-read-requires : tie.Need-line-read-requires
+line-read-requires c κs = search needs
 
 returns : tie.Need-returns
 unfolding deedRead
-returns c = simp (c .more .ensures, c .before .start-scan .ensures)
+returns c = simp (c .line-read .ensures)
 
 pub deed-read-spec : {M : Type 1} → statement M
-deed-read-spec = tie.close (tie.spec start-scan-requires more-requires returns)
+deed-read-spec = tie.close (tie.spec line-read-requires returns)

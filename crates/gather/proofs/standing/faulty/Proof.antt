@@ -7,9 +7,12 @@ use Rattle.gather.proofs.standing.faulty.Tie as tie
 start-scan-requires : tie.Need-start-scan-requires
 start-scan-requires c κs = search needs
 
+reading-at-requires : tie.Need-reading-at-requires
+reading-at-requires c κs = search needs
+
 returns : tie.Need-returns
 unfolding faulty
-returns c = simp (c .start-scan .ensures)
+returns c = simp (c .reading-at .ensures, c .before .start-scan .ensures)
 
 pub faulty-spec : {M : Type 1} → statement M
-faulty-spec = tie.close (tie.spec start-scan-requires returns)
+faulty-spec = tie.close (tie.spec start-scan-requires reading-at-requires returns)

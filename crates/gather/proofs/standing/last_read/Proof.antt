@@ -4,19 +4,15 @@ use Rattle.gather.specs.Gathering.{lastRead}
 use Rattle.gather.proofs.standing.last_read.Statement.{statement}
 use Rattle.gather.proofs.standing.last_read.Tie as tie
 
-start-scan-requires : tie.Need-start-scan-requires
-start-scan-requires c κs = search needs
-
-more-requires : tie.Need-more-requires
-more-requires c κs = search needs
-
 one-run-more-requires : tie.Need-one-run-more-requires
 one-run-more-requires c κs = search needs
 
+line-read-requires : tie.Need-line-read-requires
+line-read-requires c κs = search needs
+
 returns : tie.Need-returns
 unfolding lastRead
-returns c = simp (c .one-run-more .ensures, c .before .more .ensures, c .before .before .start-scan .ensures)
+returns c = simp (c .line-read .ensures, c .before .one-run-more .ensures)
 
 pub last-read-spec : {M : Type 1} → statement M
-last-read-spec =
-    tie.close (tie.spec start-scan-requires more-requires one-run-more-requires returns)
+last-read-spec = tie.close (tie.spec one-run-more-requires line-read-requires returns)
