@@ -164,7 +164,7 @@ unfolding texts textOf linesOf
 texts-lines [] = refl
 texts-lines (one ∷ rest) = ap (λ (t : List ℕ). text (one .line) ++ t) (texts-lines rest)
 
-text-both : (a b : List Line) → textOf (a ++ b) ≡ textOf a ++ textOf b
+pub text-both : (a b : List Line) → textOf (a ++ b) ≡ textOf a ++ textOf b
 unfolding textOf
 text-both [] b = refl
 text-both (line ∷ a) b = ap (λ (t : List ℕ). text line ++ t) (text-both a b) ∙ sym (append-assoc (text line) (textOf a) (textOf b))

@@ -1,9 +1,10 @@
 -- What 13 lets pass stays so: the sentences of specs/Theorems, proved; and the start of a plan in range passes.
-use Prim.Native.Nat.{ℕ, _-_, _^_}
+use Prim.Native.Nat.{ℕ, _-_, _^_, _<_}
 use mathlib.Core.Path.{_≡_}
 use mathlib.Core.Bool.{true, or-true}
 use native.Mathlib.Omega.{arith}
 use lib.Dec.{eqb}
+use lib.ListN.{getD}
 use lib.Pow.{pow-mono}
 use borrow.Author.Tests.{lt-ltb, eqb-true}
 use Rattle.lists.proofs.Laws.{every-none, every-each}
@@ -16,16 +17,18 @@ use Rattle.plan.specs.Plan.{nodePlaces, junctionPlaces, inRange, nodeCount, jun
 use Rattle.usernode.specs.Sound.{activityNames, lettingAllowed, nodeSound}
 use Rattle.junction.specs.Sound.{junctionSound}
 use Rattle.zeronode.specs.Sound.{zeroSound}
+use Rattle.turns.specs.Turn.{eventLock}
 use Rattle.acts.specs.declared.Action.{Action}
 use Rattle.ring.specs.declared.State.{State}
 use Rattle.ring.specs.State.{restNode, restJunction, startOf, nodeOf}
 use Rattle.ring.specs.Sound.{zeroPasses, nodePasses, junctionPasses, sound}
 use Rattle.ring.specs.Actions.{actionNumber, actedState, handedBack}
-use Rattle.ring.specs.Step.{StepTold, stepNumber, refused, done, moving}
+use Rattle.ring.specs.Step.{StepTold, stepNumber, refused, done, moving, stepping}
+use Rattle.ring.specs.Walk.{quiet}
 use Rattle.ring.specs.Theorems.{StepKeepsSound, ActionKeepsSound}
 use Rattle.ring.proofs.Laws.{node-number, accepted-node, accepted, passed, passes, node-passes, step-of-sound, act-of-sound}
 use Rattle.ring.proofs.Sound.Node.{acted-sound}
-use Rattle.ring.proofs.Sound.Walk.{next-sound}
+use Rattle.ring.proofs.Sound.Walk.{next-sound, walk-events, no-events}
 
 -- 13 lets a state pass
 abbrev Passes : State → Type 0
@@ -37,6 +40,14 @@ unfolding moving done refused
 step-keeps-sound state e =
     rw (step-of-sound state e)
     (by-test (λ (t : StepTold). Passes (t .state)) (eqb (stepNumber state) 0) (λ z. next-sound state e) (λ z. e))
+
+-- its events name locks of the plan; a place without one has lock 0
+pub step-events-name : (state : State) → sound state ≡ true → (place : ℕ) → eventLock (getD (stepping state .events) place quiet .event) < state .plan .locks
+unfolding moving done refused
+step-events-name state e place =
+    rw (step-of-sound state e)
+    (by-test (λ (t : StepTold). eventLock (getD (t .events) place quiet .event) < state .plan .locks) (eqb (stepNumber state) 0)
+    (λ z. walk-events state e place) (λ z. no-events state e place))
 
 -- an action that is accepted changes one node, to one that 13 does not refuse
 acted-state-sound : (action : Action) (state : State) (node lock : ℕ) → Passes state → actionNumber action state node lock ≡ 0

@@ -4,6 +4,7 @@ use Prim.Native.Nat.{ℕ, _^_, _≤_, _<_}
 use mathlib.Core.Path.{_≡_, refl}
 use mathlib.Core.Bool.{Bool, true, _&&_, _||_}
 use native.Mathlib.Nat.{lt-of-lt-of-le}
+use native.Mathlib.Omega.{arith}
 use lib.Dec.{eqb, ltb}
 use lib.Pow.{pow-mono}
 use borrow.Author.Tests.{lt-ltb, ltb-true, eqb-false}
@@ -21,7 +22,7 @@ use Rattle.usernode.specs.declared.Rule.the-variants.{Passes, SendsReqp, SendsD
 use Rattle.usernode.specs.Node.{had}
 use Rattle.usernode.specs.Rules.{onLetting, onGap, onIdle, onReqp, onFailp, onDov, rule}
 use Rattle.usernode.specs.Node.{letGo}
-use Rattle.turns.specs.Turn.{becomes, grantCar, apply, turn}
+use Rattle.turns.specs.Turn.{becomes, grantCar, apply, eventOf, turn, eventLock}
 use Rattle.acts.specs.declared.Action.{Action}
 use Rattle.acts.specs.declared.Action.the-variants.{Take, Release, Force}
 use Rattle.acts.specs.Actions.{busyWith, released, acted}
@@ -48,9 +49,9 @@ module _ (rules nodes locks : ℕ) where
   ruleNames (SendsDov lock) = ltb lock locks
   ruleNames (SendsDidv lock) = multiring rules && ltb lock locks
   ruleNames (OwnReqp lock) = ltb lock locks
-  ruleNames (OwnFailp lock) = true
+  ruleNames (OwnFailp lock) = ltb lock locks
   ruleNames (FailsReqp tag) = names nodes locks (tag .lock) (tag .source)
-  ruleNames (OwnDov lock) = true
+  ruleNames (OwnDov lock) = ltb lock locks
   ruleNames (LosesLock tag) = names nodes locks (tag .lock) (tag .source)
   ruleNames Passes = true
 
@@ -113,12 +114,31 @@ module _ (rules nodes locks : ℕ) where
   rule-names most me (Reqp tag) node c f =
       by-test Named (eqb (tag .source) me) (λ e. lt-ltb _ _ (names-lock nodes locks (tag .lock) (tag .source) c))
       (λ e. by-test Named (node .flag) (λ e. by-test Named (had node (tag .lock)) (λ e. c) (λ e. refl)) (λ e. refl))
-  rule-names most me (Failp tag) node c f = by-test Named (eqb (tag .source) me) (λ e. refl) (λ e. refl)
+  rule-names most me (Failp tag) node c f =
+      by-test Named (eqb (tag .source) me) (λ e. lt-ltb _ _ (names-lock nodes locks (tag .lock) (tag .source) c)) (λ e. refl)
   rule-names most me (Dov tag) node c f =
-      by-test Named (eqb (tag .source) me) (λ e. refl)
+      by-test Named (eqb (tag .source) me) (λ e. lt-ltb _ _ (names-lock nodes locks (tag .lock) (tag .source) c))
       (λ e. by-test Named (has (node .held) (tag .lock)) (λ e. c) (λ e. refl))
   rule-names most me (Gotp notice) node c f = refl
   rule-names most me (Didv notice) node c f = refl
+
+  -- so the event that such a rule gives names a lock of the plan; where nothing happens the lock is 0
+  event-names : 1 ≤ locks → (r : Rule) → Named r → eventLock (eventOf r) < locks
+  unfolding ruleNames eventOf eventLock
+  event-names least (SendsReqp lock) e = omega (arith, least)
+  event-names least (SendsDov lock) e = omega (arith, least)
+  event-names least (SendsDidv lock) e = ltb-true _ _ (and-right (multiring rules) (ltb lock locks) e)
+  event-names least (OwnReqp lock) e = ltb-true _ _ e
+  event-names least (OwnFailp lock) e = ltb-true _ _ e
+  event-names least (FailsReqp tag) e = omega (arith, least)
+  event-names least (OwnDov lock) e = ltb-true _ _ e
+  event-names least (LosesLock tag) e = names-lock nodes locks (tag .lock) (tag .source) e
+  event-names least Passes e = omega (arith, least)
+
+  pub turn-event : 1 ≤ locks → locks ≤ 64 → (me : ℕ) (arrival : Car) (node : Node) → carNames rules nodes locks arrival ≡ true
+      → nodeSound rules nodes locks node ≡ true → eventLock (turn rules me arrival node .event) < locks
+  unfolding turn
+  turn-event least most me arrival node c e = event-names least (rule node me arrival) (rule-names most me arrival node c (in-plan node e))
 
   -- letting a lock of the plan go keeps the letting-go word within the plan's locks
   let-go-within : (letting lock : ℕ) → lock < locks → letting < 2 ^ locks → letGo rules letting lock < 2 ^ locks

@@ -5,27 +5,29 @@ use mathlib.Core.Path.{_≡_, refl, sym, ap, subst, subst₂}
 use mathlib.Core.Bool.{true}
 use native.Mathlib.Omega.{arith}
 use lib.Dec.{eqb}
-use lib.ListN.{getD}
+use lib.ListN.{getD, replicate}
 use borrow.Author.Tests.{le-leb}
 use Rattle.lists.specs.Loops.{iterate, inOrder}
 use Rattle.lists.proofs.Laws.{every-each}
 use Rattle.lists.proofs.Tests.{and-both, by-test}
-use Rattle.lists.proofs.Places.{place-set}
+use Rattle.lists.proofs.Places.{place-set, place-default}
 use Rattle.cars.specs.Cars.{isNode, carNames}
-use Rattle.plan.specs.Plan.{valueAt, sizeOf, junctionsOf, nodesBefore, junctionsBefore, nodeCount, junctionCount}
+use Rattle.plan.specs.Plan.{nodePlaces, valueAt, sizeOf, junctionsOf, nodesBefore, junctionsBefore, nodeCount, junctionCount}
 use Rattle.plan.proofs.Laws.{in-range, size-one, size-many, junctions-of-node, junctions-of-junction}
 use Rattle.plan.proofs.Laws.{nodes-none, nodes-more, nodes-within, counted, junctions-none, junctions-more, junctions-within, junctions-counted}
 use Rattle.usernode.specs.declared.Node.{Node}
 use Rattle.usernode.specs.Sound.{nodeSound}
+use Rattle.turns.specs.Turn.{eventLock}
 use Rattle.junction.specs.declared.Junction.{Junction}
 use Rattle.junction.specs.Sound.{junctionSound}
 use Rattle.ring.specs.declared.State.{State}
+use Rattle.ring.specs.declared.Happening.{Happening}
 use Rattle.ring.specs.State.{restNode, restJunction}
 use Rattle.ring.specs.Sound.{zeroPasses, nodePasses, junctionPasses, sound}
-use Rattle.ring.specs.Walk.{Walk, nodeHere, junctionHere, turnHere, onNode, wanted, intoSubring, outOfSubring, onJunction, onPosition, setOut, walk}
+use Rattle.ring.specs.Walk.{Walk, quiet, nodeHere, junctionHere, turnHere, onNode, wanted, intoSubring, outOfSubring, onJunction, onPosition, setOut, walk}
 use Rattle.ring.specs.Step.{nextState}
 use Rattle.ring.proofs.Laws.{passed, passes, sound-plan, node-passes, junction-passes}
-use Rattle.ring.proofs.Sound.Node.{sound-car, turn-sound}
+use Rattle.ring.proofs.Sound.Node.{sound-car, turn-sound, turn-event}
 use Rattle.ring.proofs.Sound.Junction.{junction-in-plan, junction-sound}
 use Rattle.ring.proofs.Sound.Zero.{zero-car, zero-sound}
 
@@ -50,6 +52,10 @@ module _ (s : State) (e : sound s ≡ true) where
   abbrev JunctionOk : Junction → Type 0
   JunctionOk junction = junctionSound rules nodes locks junction ≡ true
 
+  -- what happened at a node names a lock of the plan
+  abbrev EventOk : Happening → Type 0
+  EventOk happening = eventLock (happening .event) < locks
+
   -- a walk that has passed n nodes and turned j junctions, and whose car, nodes and junctions 13 does not refuse
   record Walks (n j : ℕ) (w : Walk) : Type 0 where
     passed : w .passed ≡ n
@@ -57,6 +63,12 @@ module _ (s : State) (e : sound s ≡ true) where
     last : carNames rules nodes locks (w .last) ≡ true
     nodes-pass : (i : ℕ) → i < nodes → NodeOk (getD (w .nodes) i restNode)
     junctions-pass : (i : ℕ) → i < junctions → JunctionOk (getD (w .junctions) i restJunction)
+    events-name : (i : ℕ) → EventOk (getD (w .events) i quiet)
+
+  -- where nothing happens the lock is 0
+  quiet-names : EventOk quiet
+  unfolding quiet eventLock
+  quiet-names = omega (arith, in-range (s .plan) (sound-plan s e) .locks-least)
 
   -- past a user node the walk is still so
   walks-node : (n j : ℕ) (w : Walk) → n < nodes → Walks n j w → Walks (n + 1) j (onNode s w)
@@ -64,13 +76,16 @@ module _ (s : State) (e : sound s ≡ true) where
   walks-node n j w l h =
       let me = and-both (le-leb 1 (w .passed + 1) (omega arith)) (le-leb (w .passed + 1) nodes (omega (arith, h .passed))) in
       let here = node-passes s e (w .passed) (omega (arith, h .passed)) in
-      let after = turn-sound rules nodes locks (w .passed + 1) me (in-range (s .plan) (sound-plan s e) .locks-most) (w .last) (nodeHere s w) (h .last) here in
+      let range = in-range (s .plan) (sound-plan s e) in
+      let after = turn-sound rules nodes locks (w .passed + 1) me (range .locks-most) (w .last) (nodeHere s w) (h .last) here in
+      let happens = turn-event rules nodes locks (range .locks-least) (range .locks-most) (w .passed + 1) (w .last) (nodeHere s w) (h .last) here in
       record {
         passed = ap (λ (k : ℕ). k + 1) (h .passed);
         turned = h .turned;
         last = sound-car rules nodes locks (nodeHere s w) here;
         nodes-pass = λ i b. place-set NodeOk restNode (w .nodes) (w .passed) _ i after (h .nodes-pass i b);
         junctions-pass = h .junctions-pass;
+        events-name = λ i. place-set EventOk quiet (w .events) (w .passed) _ i happens (h .events-name i);
       }
 
   -- past k user nodes
@@ -86,7 +101,14 @@ module _ (s : State) (e : sound s ≡ true) where
   unfolding intoSubring junctionHere
   walks-into n j w l h =
       let here = junction-in-plan rules nodes locks (junctionHere s w) (junction-passes s e (w .turned) (omega (arith, h .turned))) in
-      record { passed = h .passed; turned = h .turned; last = here .1; nodes-pass = h .nodes-pass; junctions-pass = h .junctions-pass }
+      record {
+        passed = h .passed;
+        turned = h .turned;
+        last = here .1;
+        nodes-pass = h .nodes-pass;
+        junctions-pass = h .junctions-pass;
+        events-name = h .events-name;
+      }
 
   -- out of a subring, that which went into it and that which comes out being so
   walks-out : (n m j size : ℕ) (before inside : Walk) → j < junctions → Walks n j before → Walks m j inside
@@ -102,6 +124,7 @@ module _ (s : State) (e : sound s ≡ true) where
         last = junction-in-plan rules nodes locks (junctionHere s before) here .0;
         nodes-pass = i .nodes-pass;
         junctions-pass = λ k b. place-set JunctionOk restJunction (before .junctions) (before .turned) _ k after (h .junctions-pass k b);
+        events-name = i .events-name;
       }
 
   -- a walk where the position at this place is reached
@@ -137,6 +160,7 @@ module _ (s : State) (e : sound s ≡ true) where
         last = zero-car rules nodes locks (s .zeroth) (passed s e .zeroth);
         nodes-pass = node-passes s e;
         junctions-pass = junction-passes s e;
+        events-name = λ i. place-default EventOk quiet nodePlaces i quiet-names;
       }
   walks-before (suc place) l =
       let more : place + 1 ≡ suc place = omega arith in
@@ -156,3 +180,11 @@ next-sound state e =
       nodes = every-each _ (nodeCount (state .plan)) (w .nodes-pass);
       junctions = every-each _ (junctionCount (state .plan)) (w .junctions-pass);
     })
+
+-- and what happens in it names locks of the plan
+pub walk-events : (state : State) → sound state ≡ true → (place : ℕ) → eventLock (getD (walk state .events) place quiet .event) < state .plan .locks
+unfolding walk
+walk-events state e place = walks-before state e (state .plan .positions) (omega arith) .events-name place
+
+pub no-events : (state : State) → sound state ≡ true → (place : ℕ) → eventLock (getD (replicate nodePlaces quiet) place quiet .event) < state .plan .locks
+no-events state e place = place-default (EventOk state e) quiet nodePlaces place (quiet-names state e)

@@ -1,0 +1,4 @@
+pub mod Deeds
+pub mod Runs
+pub mod Month
+pub mod Theorems

@@ -1,0 +1,2 @@
+pub mod Monthly
+pub mod Theorems
