@@ -39,6 +39,7 @@ use Rattle.course.proofs.Moves.{nodes-most, course-items}
 use Rattle.run.specs.Outcomes.{fileCourse}
 use Rattle.run.proofs.Sum.{beginning-items}
 use Rattle.onelock.proofs.Run.Reached.{number-small}
+use Rattle.linereader.specs.Reading.{isDeed as isDeedLetter}
 use Rattle.ownsheet.specs.Numbers.{isDeed, linesOf}
 
 -- ---- small lines
@@ -76,11 +77,11 @@ small-more line before after rest small r = Deedlike.one-more small r
 
 -- the lines of the end are of no action and no event
 lock-other : (run : Run) → SmallDeed (lockLine run)
-unfolding isDeed lockLine lockSays
+unfolding isDeed isDeedLetter lockLine lockSays
 lock-other run e = absurd (true≢false (sym e))
 
 last-other : (steps : ℕ) (cut : Bool) (grants failed : ℕ) → SmallDeed (lastSays steps cut grants failed)
-unfolding isDeed lastSays lineOf endLetter
+unfolding isDeed isDeedLetter lastSays lineOf endLetter
 last-other steps true grants failed e = absurd (true≢false (sym e))
 last-other steps false grants failed e = absurd (true≢false (sym e))
 

@@ -29,6 +29,7 @@ use Rattle.course.proofs.Moves.{course-items}
 use Rattle.run.specs.Filling.{texts}
 use Rattle.run.specs.Outcomes.{fileCourse, fileText}
 use Rattle.run.proofs.Sum.{closing-reached, closing-phase, beginning-items}
+use Rattle.linereader.specs.Reading.{isDeed as isDeedLetter}
 use Rattle.ownsheet.specs.Numbers.{lockLines, lastLines, isDeed, allDeeds, linesOf, textOf}
 use Rattle.ownsheet.specs.Theorems.{TheLinesEndWithTheNumbers}
 
@@ -36,7 +37,7 @@ use Rattle.ownsheet.specs.Theorems.{TheLinesEndWithTheNumbers}
 
 -- an event's line
 event-deed : (steps place : ℕ) (event : Event) → isEvent event ≡ true → isDeed (eventSays steps place event) ≡ true
-unfolding isEvent isDeed eventSays lineOf eventLetter
+unfolding isEvent isDeed isDeedLetter eventSays lineOf eventLetter
 event-deed steps place Nothing e = absurd (true≢false (sym e))
 event-deed steps place (Granted lock) e = refl
 event-deed steps place (Failed lock) e = refl
@@ -46,13 +47,13 @@ event-deed steps place (Sent lock) e = refl
 
 -- an action's line, accepted or refused
 accepted-deed : (steps : ℕ) (action : Action) (node lock : ℕ) → isDeed (actionSays steps action node lock) ≡ true
-unfolding isDeed actionSays lineOf actionLetter
+unfolding isDeed isDeedLetter actionSays lineOf actionLetter
 accepted-deed steps Take node lock = refl
 accepted-deed steps Release node lock = refl
 accepted-deed steps Force node lock = refl
 
 refused-deed : (steps number place : ℕ) → isDeed (refusedSays steps number place) ≡ true
-unfolding isDeed refusedSays lineOf
+unfolding isDeed isDeedLetter refusedSays lineOf
 refused-deed steps number place = refl
 
 action-deed : (action : Action) (node lock : ℕ) (run : Run) → isDeed (actionLine action node lock run) ≡ true

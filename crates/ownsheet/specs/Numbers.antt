@@ -1,14 +1,14 @@
 -- The numbers of a run as the monthly sheet takes them, and the lines that a run ends with: the H lines and the E or C line.
 use Prim.Native.Nat.{ℕ, zero, suc, _+_}
-use mathlib.Core.Bool.{Bool, true, _&&_, _||_}
+use mathlib.Core.Bool.{Bool, true, _&&_}
 use mathlib.Core.List.{List, [], _∷_, _++_}
-use lib.Dec.{eqb}
 use lib.ListN.{getD}
 use Rattle.lists.specs.Loops.{total}
 use Rattle.nightfile.specs.File.{planPart, planOf}
 use Rattle.tally.specs.Tally.{sumOf}
 use Rattle.wording.specs.declared.Line.{Line}
 use Rattle.wording.specs.Wording.{text, lockSays, lastSays}
+use Rattle.linereader.specs.Reading.{isDeed as isDeedLetter}
 use Rattle.course.specs.declared.Reached.{Reached}
 use Rattle.course.specs.declared.Run.{Run}
 use Rattle.course.specs.Standing.{locksOf}
@@ -74,9 +74,7 @@ rowLines cut numbers =
 
 -- a line of an action or of an event: its letter is one of T R F X G N L B D
 unfoldable pub isDeed : Line → Bool
-isDeed line =
-    eqb (line .letter) 84 || eqb (line .letter) 82 || eqb (line .letter) 70 || eqb (line .letter) 88 || eqb (line .letter) 71
-    || eqb (line .letter) 78 || eqb (line .letter) 76 || eqb (line .letter) 66 || eqb (line .letter) 68
+isDeed line = isDeedLetter (line .letter)
 
 -- all of them are
 unfoldable pub allDeeds : List Line → Bool
