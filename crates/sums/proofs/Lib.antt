@@ -6,3 +6,4 @@ pub mod Accepted
 pub mod Order
 pub mod Theorems
 pub mod Callers
+pub mod Example

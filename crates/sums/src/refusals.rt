@@ -40,7 +40,7 @@ fn all_alike(numbers: &[u64]) -> bool
 }
 
 // Whether the rows are whole and the locks right (25).
-pub fn locks_right(numbers: &[u64]) -> bool
+pub(crate) fn locks_right(numbers: &[u64]) -> bool
     ensures { λ r. ⌜ r ≡ locksRight (now (numbers .entry)) ⌝ }
 {
     if numbers.len() % RUN_WIDTH == 0 {
@@ -99,7 +99,7 @@ fn run_in_range(numbers: &[u64], run: usize) -> bool
 }
 
 // Whether each run is in range (26).
-pub fn runs_in_range(numbers: &[u64]) -> bool
+pub(crate) fn runs_in_range(numbers: &[u64]) -> bool
     requires { ⌜ (length (now numbers) ≤ 77600) × (sheetLocks (now numbers) ≤ 64) ⌝ }
     ensures { λ r. ⌜ r ≡ runsInRange (now (numbers .entry)) ⌝ }
 {

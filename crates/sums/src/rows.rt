@@ -9,18 +9,18 @@ use crate::RUN_WIDTH;
 use crate::Sheet;
 
 // The places of a row: the run's steps, its number of locks, and the first of each 64 for busy steps, grants and N events.
-pub const STEPS_PLACE: usize = 0;
+pub(crate) const STEPS_PLACE: usize = 0;
 
-pub const LOCKS_PLACE: usize = 1;
+pub(crate) const LOCKS_PLACE: usize = 1;
 
-pub const BUSY_PLACE: usize = 2;
+pub(crate) const BUSY_PLACE: usize = 2;
 
-pub const GRANTS_PLACE: usize = 66;
+pub(crate) const GRANTS_PLACE: usize = 66;
 
-pub const FAILED_PLACE: usize = 130;
+pub(crate) const FAILED_PLACE: usize = 130;
 
 // The number at a place of a run's row; 0 past the end.
-pub fn number_at(numbers: &[u64], run: usize, place: usize) -> u64
+pub(crate) fn number_at(numbers: &[u64], run: usize, place: usize) -> u64
     requires { ⌜ run * 194 + place < 2 ^ 64 ⌝ }
     ensures { λ r. ⌜ r ≡ numberAt (now (numbers .entry)) place run ⌝ }
 {
@@ -103,7 +103,7 @@ fn locks_of(numbers: &[u64], runs: usize) -> u64
 }
 
 // The sheet of the first runs, all of them in range. Of no runs it is the empty sheet.
-pub fn sheet_of(numbers: &[u64], runs: usize) -> Sheet
+pub(crate) fn sheet_of(numbers: &[u64], runs: usize) -> Sheet
     requires { ⌜ Summable (now numbers) runs ⌝ }
     ensures { λ r. ⌜ r ≡ sheetOfFirst (now (numbers .entry)) runs (locksOfFirst (now (numbers .entry)) runs) ⌝ }
 {
