@@ -1,8 +1,8 @@
 /* The night program in plain C, the yardstick for speed. It reads a night
    file on standard input and writes the run's lines on standard output. Rules
-   and names are those of the build paper (01), with busy steps as request 1
-   and H lines as request 13 (02) has them. Refusals 13 to 15 are not tested: from the start state they
-   never occur. */
+   and names are those of the build paper (01), with busy steps as request 1,
+   rules 3 and 4 as request 4 and H lines as request 13 (02) has them. Refusals
+   13 to 15 are not tested: from the start state they never occur. */
 
 #include <stdbool.h>
 #include <stdint.h>
@@ -19,7 +19,6 @@ enum {
     LINE_MOST = 60 /* five numbers of at most 10 digits, a letter, spaces, newline */
 };
 
-enum { RING = 1, MULTIRING = 2 };
 enum { STEPS, TAKE, RELEASE, FORCE };
 enum { IDLE, TOKEN, NULL_CAR, REQP, FAILP, DOV, GOTP, DIDV };
 enum { NO_ACTIVITY, SEND_REQP, SEND_DOV, WAIT_REQP, WAIT_DOV };
@@ -48,8 +47,10 @@ struct zero_node {
     int head, count;
 };
 
+/* Rules 1 and 3 are ring rules, 2 and 4 multiring rules; under 1 and 2 a release needs an idle activity. */
 struct plan {
     int rules, locks, positions, users;
+    bool multiring, release_needs_idle;
     int value[POSITIONS_MOST];
 };
 
@@ -171,7 +172,7 @@ static struct car own_returns(struct run *run, struct node *node, int number, st
         node->held |= bit(car.lock);
         run->grants[car.lock]++;
         line(run->steps, 'G', number, car.lock);
-        if (run->plan.rules == MULTIRING)
+        if (run->plan.multiring)
             return carrying(GOTP, car.lock, number);
     } else if (car.kind == FAILP) {
         run->fails[car.lock]++;
@@ -189,7 +190,7 @@ static struct car pass_on(struct run *run, struct node *node, int number, struct
         car.kind = FAILP;
     } else if (car.kind == DOV && (node->held & bit(car.lock))) {
         node->held &= ~bit(car.lock);
-        if (run->plan.rules == MULTIRING)
+        if (run->plan.multiring)
             node->letting_go |= bit(car.lock);
         line(run->steps, 'L', number, car.lock);
     }
@@ -326,7 +327,7 @@ static int refusal(const struct run *run, int action, int number, int lock)
         return 8;
     const struct node *node = &run->nodes[number];
     bool holds = node->held & bit(lock);
-    if (node->activity != NO_ACTIVITY)
+    if (node->activity != NO_ACTIVITY && (action != RELEASE || run->plan.release_needs_idle))
         return 9;
     if (action == RELEASE)
         return holds ? 0 : 12;
@@ -340,7 +341,7 @@ static void act(struct run *run, int action, int number, int lock)
     struct node *node = &run->nodes[number];
     if (action == RELEASE) {
         node->held &= ~bit(lock);
-        if (run->plan.rules == MULTIRING)
+        if (run->plan.multiring)
             node->letting_go |= bit(lock);
     } else {
         node->activity = action == TAKE ? SEND_REQP : SEND_DOV;
@@ -371,15 +372,17 @@ static bool read_plan(struct plan *plan, const uint8_t *body)
     plan->locks = body[1];
     plan->positions = body[2];
     plan->users = 0;
-    if (plan->rules != RING && plan->rules != MULTIRING)
+    if (plan->rules < 1 || plan->rules > 4)
         return false;
+    plan->multiring = plan->rules % 2 == 0;
+    plan->release_needs_idle = plan->rules <= 2;
     if (plan->locks < 1 || plan->locks > LOCKS_MOST)
         return false;
     if (plan->positions < 1 || plan->positions > POSITIONS_MOST)
         return false;
     for (int position = 0; position < plan->positions; position++) {
         int value = body[3 + position];
-        if (value > (plan->rules == RING ? 0 : 4))
+        if (value > (plan->multiring ? 4 : 0))
             return false;
         plan->value[position] = value;
         plan->users += value == 0 ? 1 : value;

@@ -1,6 +1,7 @@
 -- 01, "Actions between steps", of the node that is named, and the numbers 9 to 12.
 use Prim.Native.Nat.{ℕ}
-use mathlib.Core.Bool.{Bool, cond, not}
+use mathlib.Core.Bool.{Bool, true, cond, not, _&&_}
+use Rattle.cars.specs.Cars.{releaseNeedsIdle}
 use Rattle.words.specs.Words.{has, withoutLock}
 use Rattle.usernode.specs.declared.Node.{Node}
 use Rattle.usernode.specs.declared.Activity.{Activity}
@@ -31,14 +32,21 @@ wishNumber node lock = cond (has (node .held) lock) 10 (cond (has (node .letting
 unfoldable pub releaseNumber : Node → ℕ → ℕ
 releaseNumber node lock = cond (has (node .held) lock) 0 12
 
--- 9 "action: node's activity not idle", then 10 to 12
+-- 10 to 12, by the action
 unfoldable pub laterNumber : Action → Node → ℕ → ℕ
 laterNumber Take node lock = wishNumber node lock
 laterNumber Release node lock = releaseNumber node lock
 laterNumber Force node lock = wishNumber node lock
 
-unfoldable pub nodeNumber : Action → Node → ℕ → ℕ
-nodeNumber action node lock = cond (isIdle (node .activity)) (laterNumber action node lock) 9
+-- take and force need an idle activity; 02, item 4: "under 3 and 4 number 9 is for take and force only"
+unfoldable pub needsIdle : ℕ → Action → Bool
+needsIdle rules Take = true
+needsIdle rules Release = releaseNeedsIdle rules
+needsIdle rules Force = true
+
+-- 9 "action: node's activity not idle", then 10 to 12
+unfoldable pub nodeNumber : ℕ → Action → Node → ℕ → ℕ
+nodeNumber rules action node lock = cond (not (isIdle (node .activity)) && needsIdle rules action) 9 (laterNumber action node lock)
 
 -- the node with another activity
 unfoldable pub busyWith : Node → Activity → Node

@@ -1,6 +1,6 @@
 // Take, release and force at the node that is named: the numbers 9 to 12, and the node after an action that is accepted.
 ghost use mathlib.Core.Path.{_≡_};
-ghost use Rattle.acts.specs.Actions.{actionAnswerNumber, wishNumber, releaseNumber, laterNumber, nodeNumber, busyWith, released, acted};
+ghost use Rattle.acts.specs.Actions.{actionAnswerNumber, wishNumber, releaseNumber, laterNumber, needsIdle, nodeNumber, busyWith, released, acted};
 use usernode::Activity;
 use usernode::Node;
 
@@ -73,15 +73,29 @@ fn later_answer(node: Node, action: Action, lock: u8) -> ActionAnswer
     }
 }
 
+// Whether an action needs an idle activity: take and force always, a release by the rules.
+fn needs_idle(rules: u8, action: Action) -> bool
+    ensures { λ r. ⌜ r ≡ needsIdle rules action ⌝ }
+{
+    match action {
+        Action::Take => true,
+        Action::Release => cars::release_needs_idle(rules),
+        Action::Force => true,
+    }
+}
+
 // The node's answer to an action: accepted, or 9 to 12.
-pub fn answer(node: Node, action: Action, lock: u8) -> ActionAnswer
-    ensures { λ r. ⌜ actionAnswerNumber r ≡ nodeNumber action node lock ⌝ }
+pub fn answer(node: Node, rules: u8, action: Action, lock: u8) -> ActionAnswer
+    ensures { λ r. ⌜ actionAnswerNumber r ≡ nodeNumber rules action node lock ⌝ }
 {
     let doing = node.activity;
     if usernode::is_idle(doing) {
         return later_answer(node, action, lock);
     }
-    ActionAnswer::NotIdle
+    if needs_idle(rules, action) {
+        return ActionAnswer::NotIdle;
+    }
+    later_answer(node, action, lock)
 }
 
 // The node with another activity.

@@ -1,14 +1,20 @@
 -- 01, "The plan and the things in it": rules and cars; and of number 13 what is said of a car.
 use Prim.Native.Nat.{ℕ}
-use mathlib.Core.Bool.{Bool, true, false, _&&_}
+use mathlib.Core.Bool.{Bool, true, false, _&&_, _||_}
 use lib.Dec.{eqb, ltb, leb}
 use Rattle.cars.specs.declared.Notice.{Notice}
 use Rattle.cars.specs.declared.Car.{Car}
 use Rattle.cars.specs.declared.Car.the-variants.{Idle, Token, Null, Reqp, Failp, Dov, Gotp, Didv}
 
--- "rules (1 ring, 2 multiring)": junctions, gotp, didv and letting go are under multiring rules
+-- "rules (1 ring, 2 multiring)"; 02, item 4: "Rules 3 and 4 in the plan's first byte are rules 1 and 2 with one difference: a release doesn't need an
+-- idle activity." So 1 and 3 are ring rules, 2 and 4 multiring rules; these two predicates ask the byte, and beside its range nothing else does.
+-- Junctions, gotp, didv and letting go are under multiring rules.
 unfoldable pub multiring : ℕ → Bool
-multiring rules = eqb rules 2
+multiring rules = eqb rules 2 || eqb rules 4
+
+-- where a release needs an idle activity
+unfoldable pub releaseNeedsIdle : ℕ → Bool
+releaseNeedsIdle rules = eqb rules 1 || eqb rules 2
 
 -- "User nodes are numbered 1 to U"
 unfoldable pub isNode : ℕ → ℕ → Bool

@@ -1,8 +1,8 @@
-// The cars that go round the ring, the two rule books, and the test that a car names nothing that is missing (13).
+// The cars that go round the ring, what the number of the rules says, and the test that a car names nothing that is missing (13).
 ghost use mathlib.Core.Path.{_≡_};
 ghost use mathlib.Core.Bool.{false, not, _&&_, _||_};
 ghost use Prim.Native.Nat.{ℕ};
-ghost use Rattle.cars.specs.Cars.{multiring, isNode, names, carNames};
+ghost use Rattle.cars.specs.Cars.{multiring, releaseNeedsIdle, isNode, names, carNames};
 
 // What a request carries: its lock and its source node.
 pub struct Tag {
@@ -32,6 +32,19 @@ pub enum Car {
 pub fn multiring(rules: u8) -> bool
     ensures { λ r. ⌜ r ≡ multiring rules ⌝ }
 {
+    if rules == 2 {
+        return true;
+    }
+    rules == 4
+}
+
+// Whether a release needs an idle activity under the rules of this number.
+pub fn release_needs_idle(rules: u8) -> bool
+    ensures { λ r. ⌜ r ≡ releaseNeedsIdle rules ⌝ }
+{
+    if rules == 1 {
+        return true;
+    }
     rules == 2
 }
 

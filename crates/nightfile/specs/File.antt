@@ -57,7 +57,7 @@ planLengthWrong body = ltb (length body) 3 || not (eqb (length body) (3 + byteAt
 unfoldable pub planValues : List ℕ → List ℕ
 planValues body = take positionPlaces (drop 3 body ++ replicate positionPlaces 0)
 
--- "Plan: rules (1 ring, 2 multiring), locks, number of positions, then one byte a position."
+-- "Plan: rules (1 ring, 2 multiring), locks, number of positions, then one byte a position."; 02, item 4 has rules 3 and 4
 unfoldable pub planOf : List ℕ → Plan
 planOf body =
     record {

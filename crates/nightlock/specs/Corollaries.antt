@@ -50,7 +50,7 @@ pub record BusyStepsAre (so : ℕ → State → Bool) (ceiling : ℕ) (file : Li
   pub result : (lock : ℕ) → lock < planIn file .locks
       → getD (fileOutcome ceiling file .busy) lock 0 ≡ fileSteps so file (fileOutcome ceiling file .steps) lock
 
--- under both rule books "some node holds it or is letting it go"; a file's bytes are below 256
+-- under all four rules "some node holds it or is letting it go"; a file's bytes are below 256
 abbrev pub BusyStepsOfSomeHas : Type 0
 BusyStepsOfSomeHas =
     (ceiling : ℕ) (file : List ℕ) → ((place : ℕ) → getD file place 0 < 256) → fileNumber file ≡ 0 → BusyStepsAre someHas ceiling file

@@ -8,7 +8,7 @@
 -- comes back to its source. A node has a lock: it holds it or is letting it go.
 --
 -- Letters used throughout:
---   m           the rules: 1 is ring rules, 2 is multiring rules
+--   m           the rules: 1 and 3 are ring rules, 2 and 4 multiring rules
 --   n           the number of user nodes;  lo, hi: a ring's nodes are lo + 1 to hi
 --   A B         the nodes, by their numbers
 --   u v         a user node before and after its turn;  me: its number;  act: an activity

@@ -1,4 +1,5 @@
--- A ring that never grants would keep demand 3: for each rule book a schedule in which a lock is granted to two nodes, an ending between them.
+-- A ring that never grants would keep demand 3: for each rule book of 01 a schedule in which a lock is granted to two nodes, an ending between them.
+-- Those of rules 3 and 4 are in crate books, `Waiting`.
 use mathlib.Core.List.{List, [], _∷_, _++_}
 use lib.ListN.{replicate}
 use Rattle.plan.specs.declared.Plan.{Plan}

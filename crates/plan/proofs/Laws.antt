@@ -30,17 +30,17 @@ all-six a b c d e f six =
 
 -- the heads in range, each by itself
 pub heads-in-range : (plan : Plan) → headsInRange plan ≡ true →
-    (1 ≤ plan .rules) × (plan .rules ≤ 2) × (1 ≤ plan .locks) × (plan .locks ≤ 64) × (1 ≤ plan .positions) × (plan .positions ≤ 16)
+    (1 ≤ plan .rules) × (plan .rules ≤ 4) × (1 ≤ plan .locks) × (plan .locks ≤ 64) × (1 ≤ plan .positions) × (plan .positions ≤ 16)
 unfolding headsInRange
 heads-in-range plan e =
-    let each = all-six (leb 1 (plan .rules)) (leb (plan .rules) 2) (leb 1 (plan .locks)) (leb (plan .locks) 64)
+    let each = all-six (leb 1 (plan .rules)) (leb (plan .rules) 4) (leb 1 (plan .locks)) (leb (plan .locks) 64)
     (leb 1 (plan .positions)) (leb (plan .positions) 16) e in
     (leb-true _ _ (each .0), leb-true _ _ (each .1), leb-true _ _ (each .2), leb-true _ _ (each .3), leb-true _ _ (each .4), leb-true _ _ (each .5))
 
 -- what a plan in range says of each of its values
 pub record Range (plan : Plan) : Type 0 where
   pub rules-least : 1 ≤ plan .rules
-  pub rules-most : plan .rules ≤ 2
+  pub rules-most : plan .rules ≤ 4
   pub locks-least : 1 ≤ plan .locks
   pub locks-most : plan .locks ≤ 64
   pub positions-least : 1 ≤ plan .positions

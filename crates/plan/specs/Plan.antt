@@ -28,11 +28,11 @@ valueInRange rules value = leb value 4 && (multiring rules || eqb value 0)
 unfoldable pub placeInRange : Plan → ℕ → Bool
 placeInRange plan place = valueInRange (plan .rules) (valueAt plan place)
 
--- "rules (1 ring, 2 multiring)", "Locks: 1 to 64", "Positions round the main ring: 1 to 16"
+-- 02, item 4: "4 now means rules outside 1 to 4"; "Locks: 1 to 64", "Positions round the main ring: 1 to 16"
 unfoldable pub headsInRange : Plan → Bool
 headsInRange plan =
     leb 1 (plan .rules)
-    && leb (plan .rules) 2
+    && leb (plan .rules) 4
     && leb 1 (plan .locks)
     && leb (plan .locks) 64
     && leb 1 (plan .positions)

@@ -80,7 +80,7 @@ impl Plan {
         if rules < 1 {
             return false;
         }
-        if 2 < rules {
+        if 4 < rules {
             return false;
         }
         if locks < 1 {

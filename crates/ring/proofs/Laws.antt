@@ -63,10 +63,10 @@ accepted-node action state node lock e = go (isNode (nodeCount (state .plan)) no
 
 -- and a lock of the plan, and its node accepts it
 pub accepted : (action : Action) (state : State) (node lock : ℕ) → actionNumber action state node lock ≡ 0
-    → (lock < state .plan .locks) × (nodeNumber action (nodeOf state node) lock ≡ 0)
+    → (lock < state .plan .locks) × (nodeNumber (state .plan .rules) action (nodeOf state node) lock ≡ 0)
 unfolding actionNumber refusedIf
 accepted action state node lock e =
-    let both = go (isNode (nodeCount (state .plan)) node) (ltb lock (state .plan .locks)) (nodeNumber action (nodeOf state node) lock) e in
+    let both = go (isNode (nodeCount (state .plan)) node) (ltb lock (state .plan .locks)) (nodeNumber (state .plan .rules) action (nodeOf state node) lock) e in
     (ltb-true _ _ (both .0), both .1)
   where
     go : (a b : Bool) (n : ℕ) → cond (not a) 7 (cond (not b) 8 n) ≡ 0 → (b ≡ true) × (n ≡ 0)

@@ -4,9 +4,9 @@ use lib.Count.{trailingZeros}
 use Rattle.lists.specs.Loops.{every, some, total, iterate, inOrder}
 use Rattle.lists.specs.Refusal.{refusedIf}
 use Rattle.words.specs.Words.{has, withLock, withoutLock, least, allBelow}
-use Rattle.cars.specs.Cars.{multiring, isNode, names, noticeNames, carNames}
+use Rattle.cars.specs.Cars.{multiring, releaseNeedsIdle, isNode, names, noticeNames, carNames}
 use Rattle.plan.specs.Plan.{valueAt, valueInRange, placeInRange, headsInRange, inRange, sizeOf, junctionsOf, nodesBefore, junctionsBefore, nodeCount, junctionCount}
-use Rattle.acts.specs.Actions.{wishNumber, releaseNumber, laterNumber, nodeNumber, busyWith, released, acted}
+use Rattle.acts.specs.Actions.{wishNumber, releaseNumber, laterNumber, needsIdle, nodeNumber, busyWith, released, acted}
 use Rattle.usernode.specs.Astray.{waitsReqp, waitsDov, unready, astray}
 use Rattle.usernode.specs.Node.{had, isIdle, wantsTrain}
 use Rattle.usernode.specs.Rules.{onLetting, onGap, onIdle, onReqp, onFailp, onDov, rule}
@@ -35,7 +35,7 @@ unfolding has withLock withoutLock least allBelow trailingZeros
 of-words = 0
 
 unfoldable pub of-cars : ℕ
-unfolding multiring isNode names noticeNames carNames
+unfolding multiring releaseNeedsIdle isNode names noticeNames carNames
 of-cars = 0
 
 unfoldable pub of-plan : ℕ
@@ -43,7 +43,7 @@ unfolding valueAt valueInRange placeInRange headsInRange inRange sizeOf junction
 of-plan = 0
 
 unfoldable pub of-usernode : ℕ
-unfolding wishNumber releaseNumber laterNumber nodeNumber busyWith released acted waitsReqp waitsDov unready astray had isIdle wantsTrain onLetting onGap onIdle onReqp onFailp onDov rule activityNames lettingAllowed nodeSound flagAfter becomes grantCar letGo apply eventOf turn
+unfolding wishNumber releaseNumber laterNumber needsIdle nodeNumber busyWith released acted waitsReqp waitsDov unready astray had isIdle wantsTrain onLetting onGap onIdle onReqp onFailp onDov rule activityNames lettingAllowed nodeSound flagAfter becomes grantCar letGo apply eventOf turn
 of-usernode = 0
 
 unfoldable pub of-zeronode : ℕ

@@ -21,7 +21,7 @@ actionTold r = record { number = actionAnswerNumber (r .answer); state = r .stat
 unfoldable pub actionNumber : Action → State → ℕ → ℕ → ℕ
 actionNumber action state node lock =
     refusedIf (not (isNode (nodeCount (state .plan)) node)) 7
-    (refusedIf (not (ltb lock (state .plan .locks))) 8 (nodeNumber action (nodeOf state node) lock))
+    (refusedIf (not (ltb lock (state .plan .locks))) 8 (nodeNumber (state .plan .rules) action (nodeOf state node) lock))
 
 -- the state in which the named node has acted
 unfoldable pub actedState : Action → State → ℕ → ℕ → State

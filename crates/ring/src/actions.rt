@@ -27,7 +27,7 @@ impl State {
             if lock < plan.locks {
                 let place = (node - 1) as usize;
                 let acting = self.nodes[place];
-                return acts::answer(acting, action, lock);
+                return acts::answer(acting, plan.rules, action, lock);
             }
             return ActionAnswer::NoSuchLock;
         }

@@ -16,6 +16,7 @@ pub cars : Cars
 cars =
     record {
       multiring = (λ a. tt, λ a x y d e. same);
+      release-needs-idle = (λ a. tt, λ a x y d e. same);
       is-node = (λ a. tt, λ a x y d e. same);
       car-names = (λ a. tt, λ a x y d e. same);
     }

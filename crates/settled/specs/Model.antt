@@ -5,6 +5,7 @@ use Rattle.words.proofs.without_lock.Reads as without-lock
 use Rattle.words.proofs.least.Reads as least
 use Rattle.words.proofs.all_below.Reads as all-below
 use Rattle.cars.proofs.multiring.Reads as multiring
+use Rattle.cars.proofs.release_needs_idle.Reads as release-needs-idle
 use Rattle.cars.proofs.is_node.Reads as is-node
 use Rattle.cars.proofs.car_names.Reads as car-names
 use Rattle.plan.proofs.Plan.in_range.Reads as in-range
@@ -58,6 +59,7 @@ pub record Words : Type 0 where
 -- cars
 pub record Cars : Type 0 where
   pub multiring : Settled (multiring.Asked tt) (multiring.Learnt tt)
+  pub release-needs-idle : Settled (release-needs-idle.Asked tt) (release-needs-idle.Learnt tt)
   pub is-node : Settled (is-node.Asked tt) (is-node.Learnt tt)
   pub car-names : Settled (car-names.Asked tt) (car-names.Learnt tt)
 

@@ -16,21 +16,36 @@ fn positions(plan: u64) {
 }
 
 pub fn plan(plan: u64) {
-    if plan % 64 == 2 {
+    let rules = plan % 64;
+    if cars::multiring(rules as u8) {
         io::write_all(1, b"multi");
     }
-    io::write_all(1, b"ring ");
+    io::write_all(1, b"ring, rules ");
+    io::print_decimal(1, rules);
+    io::write_all(1, b", ");
     positions(plan);
     io::write_all(1, b">, locks ");
     io::print_decimal(1, (plan >> 6u64) % 64);
 }
 
-// The states found, the paper's number, and whether exploring came to its end with every test held.
-pub fn counts(states: usize, paper: u64) {
+// The states found.
+pub fn found(states: usize) {
     io::write_all(1, b": states ");
     io::print_decimal(1, states as u64);
-    io::write_all(1, b", in the paper ");
-    io::print_decimal(1, paper);
+}
+
+// Their number elsewhere: in the paper, or by another model.
+pub fn elsewhere(paper: bool, states: u64) {
+    if paper {
+        io::write_all(1, b", in the paper ");
+    } else {
+        io::write_all(1, b", by another model ");
+    }
+    io::print_decimal(1, states);
+}
+
+// Whether exploring came to its end with every test held.
+pub fn tests(states: usize) {
     if states < seen::ROOM {
         io::write_all(1, b"; all tests held\n");
     } else {

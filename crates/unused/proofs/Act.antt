@@ -91,7 +91,7 @@ module _ (action : Action) (node lock : ℕ) (a b : State) (g : Agree a (like a 
       (go (isNode users node) refl)
     where
       later : Node → ℕ
-      later u = cond (not (ltb lock (a .plan .locks))) 8 (nodeNumber action u lock)
+      later u = cond (not (ltb lock (a .plan .locks))) 8 (nodeNumber (a .plan .rules) action u lock)
 
       go : (t : Bool) → isNode users node ≡ t → cond (not t) 7 (later (nodeOf a node)) ≡ cond (not t) 7 (later (nodeOf (like a b) node))
       go true e = ap later (own-same e)

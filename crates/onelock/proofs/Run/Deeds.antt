@@ -29,7 +29,7 @@ use Rattle.onelock.proofs.Node.Rules.{Small, Turned, sends-reqp, sends-
 use Rattle.onelock.proofs.Node.Rules.{turned}
 use Rattle.onelock.proofs.Node.Words.{told-lost, told-other, moved-same, moved-lost, moved-other, granted-has, granted-other, letting-had, held-had}
 use Rattle.onelock.proofs.Node.Words.{same-words}
-use Rattle.onelock.proofs.Whole.Acts.{release-held, accepted-idle}
+use Rattle.onelock.proofs.Whole.Acts.{release-held, accepted-later}
 use Rattle.onelock.proofs.Whole.Ready.{Awaited}
 use Rattle.onelock.proofs.State.Lists.{small-node}
 
@@ -135,9 +135,9 @@ module _ (None : ℕ → Type 0) (rules me lock : ℕ) (u : Node) (f : Fine rule
   turns a back = by-rule (turned rules me u (f .small .letting) a) back
 
   -- what an accepted action does to the lock
-  pub act-turns : (action : Action) (own : ℕ) → nodeNumber action u own ≡ 0
+  pub act-turns : (action : Action) (own : ℕ) → nodeNumber rules action u own ≡ 0
       → Does (acted rules action u own) (deedIf (releases action && not (multiring rules) && eqb own lock) (ended me))
   unfolding acted busyWith released becomes had releases deedIf laterNumber
   act-turns Take own e = stays refl
-  act-turns Release own e = lets-go Idle Resting own (release-held u own (accepted-idle Release u own e .1))
+  act-turns Release own e = lets-go Idle Resting own (release-held u own (accepted-later rules Release u own e))
   act-turns Force own e = stays refl

@@ -2,7 +2,7 @@
 -- no action is refused for its state, and the queue is short.
 use Prim.Native.Nat.{ℕ, _≤_}
 use mathlib.Core.Path.{_≡_, refl, _∙_, ap, sym, subst}
-use mathlib.Core.Bool.{Bool, true, false, cond, not}
+use mathlib.Core.Bool.{Bool, true, false, cond, not, _&&_}
 use mathlib.Core.List.{List, [], _∷_}
 use lib.Dec.{eqb, ltb, lit≤}
 use borrow.Author.Tests.{eqb-true}
@@ -15,7 +15,7 @@ use Rattle.usernode.specs.declared.Node.{Node}
 use Rattle.usernode.specs.Node.{isIdle}
 use Rattle.acts.specs.declared.Action.{Action}
 use Rattle.acts.specs.declared.Action.the-variants.{Take, Release, Force}
-use Rattle.acts.specs.Actions.{wishNumber, releaseNumber, laterNumber, nodeNumber}
+use Rattle.acts.specs.Actions.{wishNumber, releaseNumber, laterNumber, needsIdle, nodeNumber}
 use Rattle.ring.specs.declared.State.{State}
 use Rattle.ring.specs.State.{Told, nodeOf, startOf}
 use Rattle.ring.specs.Sound.{sound}
@@ -71,7 +71,7 @@ pub number-small : (action : Action) (s : State) (node lock : ℕ) → actionNum
 unfolding actionNumber refusedIf nodeNumber
 number-small action s node lock =
     either-small (not (isNode (nodeCount (s .plan)) node)) (lit≤ tt) (either-small (not (ltb lock (s .plan .locks))) (lit≤ tt)
-    (either-small (isIdle (nodeOf s node .activity)) (later-small action (nodeOf s node) lock) (lit≤ tt)))
+    (either-small (not (isIdle (nodeOf s node .activity)) && needsIdle (s .plan .rules) action) (lit≤ tt) (later-small action (nodeOf s node) lock)))
 
 -- what holds of a good state, of the next one and of the one after any accepted action holds after every item
 by-item : (P : State → Type 0) (item : Item) (s : State) → Good s → P s → P (nextState s)

@@ -117,8 +117,8 @@ kept-act action s node lock x a e =
     let rules = s .plan .rules in
     let nodes = nodeCount (s .plan) in
     let u = numbered nodes node (accepted-node action s node lock a) in
-    let allowed : nodeNumber action (x .whole .ring .nodes node) lock ≡ 0 =
-    ap (λ (v : Node). nodeNumber action v lock) (kept-node s x node u) ∙ accepted action s node lock a .1 in
+    let allowed : nodeNumber rules action (x .whole .ring .nodes node) lock ≡ 0 =
+    ap (λ (v : Node). nodeNumber rules action v lock) (kept-node s x node u) ∙ accepted action s node lock a .1 in
     record {
       plan = x .plan;
       formed = formed-act action s node lock (x .formed);

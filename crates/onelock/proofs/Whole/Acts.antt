@@ -2,7 +2,7 @@
 -- request of the train is its own.
 use Prim.Native.Nat.{ℕ, suc, _+_, _≤_}
 use mathlib.Core.Path.{_≡_, refl, sym, ap, ap₂, _∙_, subst, subst₂}
-use mathlib.Core.Bool.{Bool, true, false, cond, true≢false, _||_}
+use mathlib.Core.Bool.{Bool, true, false, cond, not, true≢false, _&&_, _||_}
 use mathlib.Core.Logic.{_⊎_, inl, inr, ⊎-elim}
 use mathlib.Core.List.{List, _++_}
 use native.Mathlib.Omega.{arith}
@@ -17,7 +17,7 @@ use Rattle.usernode.specs.declared.Activity.the-variants.{Idle as Resting, ToSe
 use Rattle.usernode.specs.Node.{had, isIdle}
 use Rattle.acts.specs.declared.Action.{Action}
 use Rattle.acts.specs.declared.Action.the-variants.{Take, Release, Force}
-use Rattle.acts.specs.Actions.{wishNumber, releaseNumber, laterNumber, nodeNumber, busyWith, released, acted}
+use Rattle.acts.specs.Actions.{wishNumber, releaseNumber, laterNumber, needsIdle, nodeNumber, busyWith, released, acted}
 use Rattle.lists.proofs.Tests.{by-test}
 use Rattle.onelock.proofs.Train.Cells.{Cell, Gateless, Names, at}
 use Rattle.onelock.proofs.Train.Invariant.{Inv}
@@ -134,14 +134,24 @@ idle-only (WaitingReqp lock) e = cc
 idle-only (ToSendDov lock) e = cc
 idle-only (WaitingDov lock) e = cc
 
--- so the node of an accepted action rests, and the later tests pass
-pub accepted-idle : (action : Action) (u : Node) (lock : ℕ) → nodeNumber action u lock ≡ 0 → (u .activity ≡ Resting) × (laterNumber action u lock ≡ 0)
+-- so where an accepted action needs an idle activity its node rests
+accepted-rests : (m : ℕ) (action : Action) (u : Node) (lock : ℕ) → needsIdle m action ≡ true → nodeNumber m action u lock ≡ 0 → u .activity ≡ Resting
 unfolding nodeNumber
-accepted-idle action u lock = go (isIdle (u .activity)) refl
+accepted-rests m action u lock needs e = idle-only (u .activity) (go (isIdle (u .activity)) (needsIdle m action) needs e)
   where
-    go : (b : Bool) → isIdle (u .activity) ≡ b → cond b (laterNumber action u lock) 9 ≡ 0 → (u .activity ≡ Resting) × (laterNumber action u lock ≡ 0)
-    go true e z = (idle-only (u .activity) e, z)
-    go false e z = absurd (omega arith)
+    go : (idle need : Bool) → need ≡ true → cond (not idle && need) 9 (laterNumber action u lock) ≡ 0 → idle ≡ true
+    go true need n z = refl
+    go false true n z = absurd (omega arith)
+    go false false n z = n
+
+-- and of every accepted action the later tests pass
+pub accepted-later : (m : ℕ) (action : Action) (u : Node) (lock : ℕ) → nodeNumber m action u lock ≡ 0 → laterNumber action u lock ≡ 0
+unfolding nodeNumber
+accepted-later m action u lock = go (not (isIdle (u .activity)) && needsIdle m action)
+  where
+    go : (b : Bool) → cond b 9 (laterNumber action u lock) ≡ 0 → laterNumber action u lock ≡ 0
+    go true z = absurd (omega arith)
+    go false z = z
 
 -- a node may ask only for a lock that it has not
 wish-free : (u : Node) (lock : ℕ) → wishNumber u lock ≡ 0 → had u lock ≡ false
@@ -180,18 +190,17 @@ module _ (n : ℕ) where
       }) i
 
   -- an accepted action keeps the invariant
-  act-inv : (m : ℕ) (action : Action) (T : List Cell) {A : ℕ → Node} {e : ℕ} (q lock : ℕ) → Small (A q) → nodeNumber action (A q) lock ≡ 0
+  act-inv : (m : ℕ) (action : Action) (T : List Cell) {A : ℕ → Node} {e : ℕ} (q lock : ℕ) → Small (A q) → nodeNumber m action (A q) lock ≡ 0
       → (multiring m ≡ true) ⊎ Gateless T → Inv n e T A → Inv n e T (put A q (acted m action (A q) lock))
-  unfolding acted laterNumber released
+  unfolding acted laterNumber needsIdle released
   act-inv m Take T {A} q lock small accepted mode i =
-      let x = accepted-idle Take (A q) lock accepted in
-      wish-inv T q lock (ToSendReqp lock) (λ own names. sym names) (x .0) (x .1) i
+      wish-inv T q lock (ToSendReqp lock) (λ own names. sym names) (accepted-rests m Take (A q) lock refl accepted)
+      (accepted-later m Take (A q) lock accepted) i
   act-inv m Release T {A} q lock small accepted mode i =
-      let x = accepted-idle Release (A q) lock accepted in
-      gives-up n m T q lock (A q) _ refl small (release-held (A q) lock (x .1)) refl refl refl mode i
+      gives-up n m T q lock (A q) _ refl small (release-held (A q) lock (accepted-later m Release (A q) lock accepted)) refl refl refl mode i
   act-inv m Force T {A} q lock small accepted mode i =
-      let x = accepted-idle Force (A q) lock accepted in
-      wish-inv T q lock (ToSendDov lock) (λ own names. sym names) (x .0) (x .1) i
+      wish-inv T q lock (ToSendDov lock) (λ own names. sym names) (accepted-rests m Force (A q) lock refl accepted)
+      (accepted-later m Force (A q) lock accepted) i
 
 module _ (m n : ℕ) where
   -- under ring rules no gate is on the train
@@ -210,7 +219,7 @@ module _ (m n : ℕ) where
 
   -- the whole ring fits after an accepted action of node q
   pub whole-act : (action : Action) (q lock : ℕ) (z : Car) (queue : List Car) (l : Line) (x : Whole m n z queue l) → 1 ≤ q → q ≤ n
-      → nodeNumber action (x .ring .nodes q) lock ≡ 0 → Nodes Small l → Whole m n z queue (change q (λ u. acted m action u lock) 0 l)
+      → nodeNumber m action (x .ring .nodes q) lock ≡ 0 → Nodes Small l → Whole m n z queue (change q (λ u. acted m action u lock) 0 l)
   whole-act action q lock z queue l x low high accepted small =
       record {
         tail = x .tail;
