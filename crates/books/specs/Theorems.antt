@@ -45,9 +45,10 @@ abbrev pub UnderThreeAndFour : Type 0
 UnderThreeAndFour = (rules : ℕ) → 3 ≤ rules → rules ≤ 4 → NineForTakeAndForce rules
 
 -- "lets an interrupt release a lock while the core waits": where a release needs no idle activity, a node that holds the lock may release it whatever
--- its activity is, and goes on with that
+-- its activity is, holds it no longer, and goes on with that
 pub record Released (state : State) (node lock : ℕ) : Type 0 where
   pub answer : acting Release state node lock ≡ record { number = 0; state = actedState Release state node lock }
+  pub holdsNoLonger : has (nodeOf (actedState Release state node lock) node .held) lock ≡ false
   pub goesOn : nodeOf (actedState Release state node lock) node .activity ≡ nodeOf state node .activity
 
 abbrev pub ReleasedWhileWaiting : Type 0
