@@ -156,7 +156,7 @@ pub scan-of : (l : TextLine) → IsLine (l .steps) (l .letter) (l .numbers) → 
 unfolding lineText
 scan-of l is = written-is-read (l .steps) (l .letter) (l .numbers) is
 
-of-kind-line : (kind : LineKind) (l : TextLine) (g : Gather) → AtLine g → OfKind kind l
+pub of-kind-line : (kind : LineKind) (l : TextLine) (g : Gather) → AtLine g → OfKind kind l
     → Does g (lineText l) (afterLine kind (scanAll startScan (lineText l)) g) (rowsAfterLine kind (scanAll startScan (lineText l)) g)
 of-kind-line kind l g at k =
     let w : Scan = scanAll startScan (lineText l) in

@@ -4,6 +4,8 @@
 mod placing;
 mod standing;
 
+pub use standing::after_part;
+pub use standing::more;
 ghost use Prim.Native.Nat.{min};
 ghost use mathlib.Core.Path.{_≡_};
 ghost use mathlib.Core.Bool.{cond};

@@ -12,7 +12,7 @@ use linereader::Part;
 use linereader::Scan;
 
 // One more; a count at its top stays there.
-pub(crate) fn more(count: u64) -> u64
+pub fn more(count: u64) -> u64
     ensures { λ r. ⌜ r ≡ more count ⌝ }
 {
     if count < 18446744073709551615 {
@@ -174,7 +174,7 @@ fn inside_line(scan: Scan, state: Gather) -> Gather
 }
 
 // By what is read of the line.
-pub(crate) fn after_part(part: Part, scan: Scan, state: Gather) -> Gather
+pub fn after_part(part: Part, scan: Scan, state: Gather) -> Gather
     ensures { λ r. ⌜ r ≡ afterPart part scan state ⌝ }
 {
     match part {

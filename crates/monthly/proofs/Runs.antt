@@ -27,24 +27,23 @@ use Rattle.linereader.specs.declared.LineKind.{LineKind}
 use Rattle.linereader.specs.declared.LineKind.the-variants.{Deed, Lock, Last, Refusal}
 use Rattle.linereader.specs.Reading.{isDeed, isKind, kindOf, numbersBehind}
 use Rattle.gather.specs.Texts.{TextLine, noLine, lineText, linesText, OfKind, Deeds, LocksFrom, RunLines, IsRun, ran, pieceText}
-use Rattle.ownsheet.specs.Numbers.{nightCeiling, lockLines, lastLines, isDeed as isDeedLine, allDeeds, textOf}
+use Rattle.ownsheet.specs.Numbers.{nightCeiling, lockLines, lastLines, isDeed as isDeedLine, allDeeds, linesOf, textOf}
 use Rattle.ownsheet.proofs.Ends.{Within, within-end, few-steps, the-locks-are-the-plans}
 use Rattle.ownsheet.proofs.Lines.{text-both, the-lines-end-with-the-numbers}
+use Rattle.monthly.specs.Monthly.{asText, asTexts}
 use Rattle.monthly.proofs.Deeds.{Small, Deedlike, file-deeds}
 
 -- ---- lines as they are gathered
-
-abbrev asText : Line → TextLine
-asText l = record { steps = l .steps; letter = l .letter; numbers = numbersOf l }
-
-asTexts : List Line → List TextLine
-asTexts [] = []
-asTexts (l ∷ rest) = asText l ∷ asTexts rest
 
 texts-same : (lines : List Line) → textOf lines ≡ linesText (asTexts lines)
 unfolding textOf linesText lineText text asTexts
 texts-same [] = refl
 texts-same (l ∷ rest) = ap (λ (t : List ℕ). text l ++ t) (texts-same rest)
+
+texts-both : (a b : List Line) → asTexts (a ++ b) ≡ asTexts a ++ asTexts b
+unfolding asTexts
+texts-both [] b = refl
+texts-both (l ∷ a) b = ap (λ (ls : List TextLine). asText l ∷ ls) (texts-both a b)
 
 -- ---- two numbers, and four
 
@@ -174,9 +173,12 @@ pub record RunOf (file : List ℕ) : Type 0 where
   pub right : IsRun run
   pub text : fileText nightCeiling file ≡ pieceText (ran run)
   pub says : Says file run
+  -- its lines are those of the file's course, and its last line tells whether that was cut
+  pub lines : run .deeds ++ (run .locks ++ (run .last ∷ [])) ≡ asTexts (linesOf (fileCourse nightCeiling file .lines))
+  pub letter : run .last .letter ≡ endLetter (isCut (fileCourse nightCeiling file .end .phase))
 
 pub run-of : (file : List ℕ) → fileNumber file ≡ 0 → RunOf file
-unfolding pieceText lineText text lastLines lastSays lineOf textOf
+unfolding pieceText lineText text lastLines lastSays lineOf textOf asTexts
 run-of file e =
     let end = fileCourse nightCeiling file .end in
     let reached = end .reached in
@@ -208,6 +210,10 @@ run-of file e =
             let same : 0 + lock ≡ lock = omega arith in
             locks-say reached 0 locks lock below ∙ ap (lockNumbers reached) same;
       };
+      lines = sym
+          (ap asTexts (ends .lines) ∙ texts-both before (lastLines end)
+          ∙ ap (λ (ls : List TextLine). asTexts before ++ ls) (texts-both (lockLines reached 0 locks) (last ∷ [])));
+      letter = refl;
     }
 
 -- ---- a refused file

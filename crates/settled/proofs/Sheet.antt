@@ -49,6 +49,8 @@ gather-of =
     record {
       start-gather = (λ a. tt, λ a x y d e. same);
       is-fine = (λ a. tt, λ a x y d e. same);
+      more = (λ a. tt, λ a x y d e. same);
+      after-part = (λ a. tt, λ a x y d e. same);
       gather-text-rows = λ κ a x y d e p q. same (p .1) (q .1);
       gather-text = λ κ. (λ a. tt, λ a x y d e p q. same (p .0) (q .0));
       fault-of = (λ a. tt, λ a x y d e. same);

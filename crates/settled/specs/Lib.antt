@@ -1,3 +1,4 @@
+pub mod Report
 pub mod Settled
 pub mod Model
 pub mod Night

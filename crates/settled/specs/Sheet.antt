@@ -10,6 +10,8 @@ use Rattle.sums.proofs.make_sheet.Reads as make-sheet
 use Rattle.sums.proofs.write_sheet.Reads as write-sheet
 use Rattle.gather.proofs.start_gather.Reads as start-gather
 use Rattle.gather.proofs.is_fine.Reads as is-fine
+use Rattle.gather.proofs.more.Reads as more
+use Rattle.gather.proofs.after_part.Reads as after-part
 use Rattle.gather.proofs.gather_text.Reads as gather-text
 use Rattle.gather.proofs.fault_of.Reads as fault-of
 use Rattle.gather.proofs.line_number.Reads as line-number
@@ -33,6 +35,8 @@ pub record Sums : Type 0 where
 pub record GatherOf : Type 0 where
   pub start-gather : Settled (start-gather.Asked tt) (start-gather.Learnt tt)
   pub is-fine : Settled (is-fine.Asked tt) (is-fine.Learnt tt)
+  pub more : Settled (more.Asked tt) (more.Learnt tt)
+  pub after-part : Settled (after-part.Asked tt) (after-part.Learnt tt)
   pub gather-text-rows : (κ : Lfts 2) → OneTold (λ r e. now (e .1 .1 .0)) (gather-text.Learnt κ)
   pub gather-text : (κ : Lfts 2) → Settled (gather-text.Asked κ) (gather-text.Learnt κ)
   pub fault-of : Settled (fault-of.Asked tt) (fault-of.Learnt tt)

@@ -1,0 +1,1 @@
+// Theorems only, over the definitions: the verdicts on night files.

@@ -1,0 +1,4 @@
+pub mod Counts
+pub mod Order
+pub mod Reading
+pub mod Theorems

@@ -1,0 +1,3 @@
+pub mod Watching
+pub mod Counting
+pub mod Theorems
