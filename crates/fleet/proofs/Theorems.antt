@@ -23,7 +23,7 @@ use Rattle.verdict.specs.Lines.{countOf, firstOf, notesOf, linesIn, worstLine, 
 use Rattle.verdict.specs.Theorems.{OnePiece, Decided}
 use Rattle.verdict.proofs.Theorems.{the-worst-line-decides, whole-runs-are-not, the-first-letter-decides, each-has-its-number}
 use Rattle.morning.specs.Theorems.{Schedules, numberOf, countOf as scheduleCount}
-use Rattle.morning.proofs.Counting.{every-schedule-is-counted}
+use Rattle.morning.proofs.AnyText.{every-schedule-is-counted}
 use Rattle.morning.proofs.Sums.{the-sums-are-the-schedules}
 use Rattle.monthly.proofs.Runs.{run-of, refusalLine, refusal-right}
 use Rattle.fleet.specs.Fleet.{NightFile, linesOfFile, schedulesOf, Named, numberOn, filesWith}

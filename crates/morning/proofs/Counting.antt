@@ -1,4 +1,4 @@
--- With whatever room, every schedule is counted by its verdict, and those that are not good are listed or counted as not listed.
+-- With whatever room, every schedule of any text is counted by its verdict, and those that are not good are listed or counted as not listed.
 use Prim.Native.Nat.{ℕ, _+_, _-_, _^_, _≤_, _<_}
 use mathlib.Core.Path.{_≡_, refl, sym, ap, subst, _∙_}
 use mathlib.Core.Bool.{Bool, true, false, cond, not}
@@ -16,12 +16,13 @@ use Rattle.verdict.specs.declared.Judged.{Judged}
 use Rattle.verdict.specs.Verdicts.{verdictNumber, verdictOf}
 use Rattle.morning.specs.declared.Night.{Night}
 use Rattle.morning.specs.Reading.{startNight, reading, naming, countedAt, isListed, closedAs, closedBy, headBegun}
-use Rattle.morning.specs.Theorems.{Schedule, numberOf, isGood, countOf, notGood, EveryScheduleIsCounted}
+use Rattle.morning.specs.Theorems.{Schedule, numberOf, isGood, countOf, notGood}
+use Rattle.morning.specs.AnyText.{schedulesIn, TextCounted}
 use Rattle.morning.proofs.Laws.{verdict-low, good-number}
 use Rattle.morning.proofs.Told.{Book, whole, closed, closings, atStart, all-told}
 
 -- what holds of each of the three ends of a schedule, holds of its end
-pub closed-cases : (P : Night → Type 0) (j : Judged) (room : ℕ) (night : Night)
+closed-cases : (P : Night → Type 0) (j : Judged) (room : ℕ) (night : Night)
     → (isListed (verdictNumber (j .verdict)) (night .fits) (night .listed) room ≡ true
     → P (closedAs (night .used) (night .listed + 1) (night .unlisted) (countedAt (night .counts) (verdictNumber (j .verdict))) night))
     → (ltb (verdictNumber (j .verdict)) 6 ≡ true
@@ -49,7 +50,7 @@ closed-counts room name-room book schedule =
     (λ e. refl)
     (λ e. refl)
 
-pub counted-more : (counts : List ℕ) (this number : ℕ) → this < length counts → getD counts number 0 < 2 ^ 64 - 1
+counted-more : (counts : List ℕ) (this number : ℕ) → this < length counts → getD counts number 0 < 2 ^ 64 - 1
     → getD (countedAt counts this) number 0 ≡ getD counts number 0 + cond (eqb this number) 1 0
 unfolding countedAt
 counted-more counts this number h small =
@@ -61,7 +62,7 @@ counted-more counts this number h small =
     (getD-set-same counts this (more (getD counts this 0)) 0 h ∙ one-more (getD counts this 0) (subst (λ (n : ℕ). getD counts n 0 < 2 ^ 64 - 1) (sym same) small)))
     (λ e. getD-set-other counts this number (more (getD counts this 0)) 0 (λ q. eqb-false this number e (sym q)) ∙ omega arith)
 
-pub counted-long : (counts : List ℕ) (this : ℕ) → length (countedAt counts this) ≡ length counts
+counted-long : (counts : List ℕ) (this : ℕ) → length (countedAt counts this) ≡ length counts
 unfolding countedAt
 counted-long counts this = length-set counts this (more (getD counts this 0))
 
@@ -127,11 +128,13 @@ total-all room name-room book (schedule ∷ rest) few =
     bad-long true = omega arith
     bad-long false = omega arith
 
-pub every-schedule-is-counted : EveryScheduleIsCounted
+-- of any text with so many schedules
+pub text-counted : (rows names text : List ℕ) → length (schedulesIn text) < 2 ^ 64 → TextCounted rows names text
 unfolding startNight
-every-schedule-is-counted rows names schedules right few =
-    let told = all-told rows names schedules right in
+text-counted rows names text few =
+    let told = all-told rows names text in
     let none = atStart rows names in
+    let schedules : List Schedule = schedulesIn text in
     record {
       counts = λ number h.
           let at-start = getD-replicate {A = ℕ} 7 number 0 0 h in

@@ -4,5 +4,6 @@ pub mod Places
 pub mod Visits
 pub mod Told
 pub mod Counting
+pub mod AnyText
 pub mod Listing
 pub mod Sums

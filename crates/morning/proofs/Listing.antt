@@ -16,9 +16,11 @@ use Rattle.morning.specs.declared.Night.{Night}
 use Rattle.morning.specs.declared.Entry.{Entry}
 use Rattle.morning.specs.Reading.{startNight, reading, naming, shown, countedAt, hasRoom, isListed, closedAs, closedBy, rowPut, rowsClosedBy, headBegun}
 use Rattle.morning.specs.Order.{entryAt}
-use Rattle.morning.specs.Theorems.{Schedule, noSchedule, numberOf, isGood, notGood, longestName, nameBytes, RowOf, rowsAfter, namesAfter, AllAreListed}
+use Rattle.morning.specs.Theorems.{Schedule, noSchedule, numberOf, nightText, isGood, notGood, longestName, nameBytes, RowOf, rowsAfter, namesAfter, AllAreListed}
+use Rattle.morning.specs.AnyText.{schedulesIn, rowsOf, namesOf, EveryTextIsListed}
 use Rattle.morning.proofs.Laws.{row-long, good-number}
 use Rattle.morning.proofs.Told.{Book, nameEnd, nameFits, spelled, whole, closed, closings, atStart, all-told}
+use Rattle.morning.proofs.AnyText.{a-night-is-cut-into-its-schedules}
 
 -- ---- a name that has room
 
@@ -304,16 +306,32 @@ filled room name-room book (schedule ∷ rest) r n rows-room names-room =
     rows-room
     names-room
 
-pub all-are-listed : AllAreListed
+pub every-text-is-listed : EveryTextIsListed
 unfolding startNight
-all-are-listed rows names schedules right rows-room names-room =
-    let told = all-told rows names schedules right in
+every-text-is-listed rows names text rows-room names-room =
+    let told = all-told rows names text in
+    let schedules = schedulesIn text in
     let all = filled (length rows) (length names) (atStart rows names) schedules refl refl (omega (arith, rows-room)) (omega (arith, names-room)) in
     record {
       listed = ap (λ (book : Book). book .night .listed) told ∙ all .listed ∙ omega arith;
       unlisted = ap (λ (book : Book). book .night .unlisted) told ∙ all .unlisted;
       row = λ k l.
           let e : 0 + k ≡ k = omega arith in
-          subst (λ (place : ℕ). RowOf (rowsAfter rows names schedules) (namesAfter rows names schedules) place (getD (notGood schedules) k noSchedule)) e
+          subst (λ (place : ℕ). RowOf (rowsOf rows names text) (namesOf rows names text) place (getD (notGood schedules) k noSchedule)) e
           (subst (λ (book : Book). RowOf (book .rows) (book .names) (0 + k) (getD (notGood schedules) k noSchedule)) (sym told) (all .row k l));
+    }
+
+pub all-are-listed : AllAreListed
+all-are-listed rows names schedules right rows-room names-room =
+    let cut = a-night-is-cut-into-its-schedules schedules right in
+    let all = every-text-is-listed rows names (nightText schedules)
+    (subst (λ (them : List Schedule). length (notGood them) ≤ length rows / 7) (sym cut) rows-room)
+    (subst (λ (them : List Schedule). nameBytes (notGood them) + longestName them ≤ length names) (sym cut) names-room) in
+    record {
+      listed = all .listed ∙ ap (λ (them : List Schedule). length (notGood them)) cut;
+      unlisted = all .unlisted;
+      row = subst
+          (λ (them : List Schedule). (k : ℕ) → k < length (notGood them)
+          → RowOf (rowsAfter rows names schedules) (namesAfter rows names schedules) k (getD (notGood them) k noSchedule))
+          cut (all .row);
     }

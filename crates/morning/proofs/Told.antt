@@ -1,19 +1,21 @@
--- The text of a night is read as one schedule after the other: what its name does, what its text does, and its end. So the state, the rows and the names
--- at the end of the text are those that the schedules' ends, in order, have left.
+-- Any text is read as one schedule after the other: what its name does, what its text does, and its end. So the state, the rows and the names at the
+-- end of the text are those that the ends of its schedules, in order, have left.
 use Prim.Native.Nat.{ℕ, _+_}
 use mathlib.Core.Path.{_≡_, refl, sym, ap, _∙_}
-use mathlib.Core.Bool.{Bool, true, false, cond, not, _&&_, true≢false}
-use mathlib.Core.List.{List, [], _∷_, _++_}
+use mathlib.Core.Bool.{Bool, true, false, cond}
+use mathlib.Core.List.{List, [], _∷_}
 use lib.Dec.{eqb, ltb}
 use lib.ListN.{length, set}
-use borrow.Author.Tests.{not-true}
-use Rattle.lists.proofs.Laws.{and-left, and-right}
+use Rattle.lists.proofs.Tests.{by-value}
+use Rattle.gather.specs.Gathering.{more}
 use Rattle.verdict.specs.declared.Watch.{Watch}
-use Rattle.verdict.specs.Verdicts.{startWatch, watchByte, watchAll, verdictOf}
+use Rattle.verdict.specs.Verdicts.{verdictNumber, startWatch, watchByte, watchAll, judged, verdictOf}
+use Rattle.morning.specs.declared.Place.{Place}
 use Rattle.morning.specs.declared.Place.the-variants.{LineStart, InLine, InName}
 use Rattle.morning.specs.declared.Night.{Night}
-use Rattle.morning.specs.Reading.{startNight, reading, lineByte, naming, shown, nameByte, namesAfterName, closedBy, closing, rowsClosedBy, rowsClosing, headBegun, onLineStart, rowsOnLineStart, afterByteIn, afterByte, rowsAfterByteIn, rowsAfterByte, namesAfterByteIn, namesAfterByte, afterAll, rowsAfterAll, namesAfterAll, endNight, rowsEndNight}
-use Rattle.morning.specs.Theorems.{Schedule, isName, hasNoHead, Schedules, none, one-more, nightText, nightAfter, rowsAfter, namesAfter}
+use Rattle.morning.specs.Reading.{startNight, reading, lineByte, naming, shown, nameByte, namesAfterName, countedAt, isListed, closedAs, closedBy, closing, rowPut, rowsClosedBy, rowsClosing, headBegun, onLineStart, rowsOnLineStart, afterByteIn, afterByte, rowsAfterByteIn, rowsAfterByte, namesAfterByteIn, namesAfterByte, afterAll, rowsAfterAll, namesAfterAll, endNight, rowsEndNight}
+use Rattle.morning.specs.Theorems.{Schedule}
+use Rattle.morning.specs.AnyText.{Rest, atHand, nameFront, textFront, headFront, cutAt, isNone, schedulesIn, nightOf}
 use Rattle.morning.proofs.Laws.{byte-long, byte-names-long}
 
 -- ---- the state, the rows and the names as one
@@ -60,27 +62,6 @@ read-told room name-room book (byte ∷ rest) r n =
       names = namesAfterAll room (afterByte room k night byte) rest (after .names);
     }) (sym n)
 
--- ---- a schedule's text
-
--- a byte that begins no head line is read as a byte of the text
-text-byte : (room name-room : ℕ) (start : Bool) (watch : Watch) (base : Night) (rows names : List ℕ) (byte : ℕ) → (start && eqb byte 62) ≡ false
-    → byted room name-room (record { night = reading (cond start LineStart InLine) watch base; rows = rows; names = names }) byte
-    ≡ record { night = reading (cond (eqb byte 10) LineStart InLine) (watchByte watch byte) base; rows = rows; names = names }
-unfolding reading lineByte afterByte afterByteIn onLineStart rowsAfterByte rowsAfterByteIn rowsOnLineStart namesAfterByte namesAfterByteIn
-text-byte room name-room true watch base rows names byte e = rw e
-text-byte room name-room false watch base rows names byte e = refl
-
-text-read : (room name-room : ℕ) (start : Bool) (watch : Watch) (base : Night) (rows names text rest : List ℕ) → hasNoHead start text ≡ true
-    → read room name-room (record { night = reading (cond start LineStart InLine) watch base; rows = rows; names = names }) (text ++ rest)
-    ≡ read room name-room (record { night = reading LineStart (watchAll watch text) base; rows = rows; names = names }) rest
-unfolding read watchAll hasNoHead
-text-read room name-room true watch base rows names [] rest e = refl
-text-read room name-room false watch base rows names [] rest e = absurd (true≢false (sym e))
-text-read room name-room start watch base rows names (byte ∷ text) rest e =
-    ap (λ (book : Book). read room name-room book (text ++ rest))
-    (text-byte room name-room start watch base rows names byte (not-true (start && eqb byte 62) (and-left (not (start && eqb byte 62)) _ e)))
-    ∙ text-read room name-room (eqb byte 10) (watchByte watch byte) base rows names text rest (and-right (not (start && eqb byte 62)) _ e)
-
 -- ---- a schedule's name
 
 -- where the names end behind it
@@ -97,43 +78,6 @@ nameFits name-room used fits (byte ∷ rest) = nameFits name-room (cond (ltb use
 unfoldable pub spelled : ℕ → List ℕ → ℕ → List ℕ → List ℕ
 spelled name-room names used [] = names
 spelled name-room names used (byte ∷ rest) = spelled name-room (set names used (shown byte)) (cond (ltb used name-room) (used + 1) used) rest
-
-name-byte : (room name-room used : ℕ) (fits : Bool) (base : Night) (rows names : List ℕ) (byte : ℕ) → eqb byte 10 ≡ false
-    → byted room name-room (record { night = naming InName used fits base; rows = rows; names = names }) byte
-    ≡ record {
-      night = naming InName (cond (ltb used name-room) (used + 1) used) (cond (ltb used name-room) fits false) base;
-      rows = rows;
-      names = set names used (shown byte);
-    }
-unfolding naming nameByte namesAfterName afterByte afterByteIn rowsAfterByte rowsAfterByteIn namesAfterByte namesAfterByteIn
-name-byte room name-room used fits base rows names byte e = rw e (go (ltb used name-room))
-  where
-    go : (test : Bool)
-        → _≡_ {A = Book}
-        (record {
-          night = cond test (naming InName (used + 1) fits base) (naming InName used false base);
-          rows = rows;
-          names = set names used (shown byte);
-        })
-        (record { night = naming InName (cond test (used + 1) used) (cond test fits false) base; rows = rows; names = set names used (shown byte) })
-    go true = refl
-    go false = refl
-
-name-read : (room name-room used : ℕ) (fits : Bool) (base : Night) (rows names name rest : List ℕ) → isName name ≡ true
-    → read room name-room (record { night = naming InName used fits base; rows = rows; names = names }) (name ++ (10 ∷ rest))
-    ≡ read room name-room
-    (record {
-      night = naming LineStart (nameEnd name-room used name) (nameFits name-room used fits name) base;
-      rows = rows;
-      names = spelled name-room names used name;
-    })
-    rest
-unfolding read isName nameEnd nameFits spelled naming nameByte namesAfterName afterByte afterByteIn rowsAfterByte rowsAfterByteIn namesAfterByte namesAfterByteIn
-name-read room name-room used fits base rows names [] rest e = refl
-name-read room name-room used fits base rows names (byte ∷ name) rest e =
-    ap (λ (book : Book). read room name-room book (name ++ (10 ∷ rest)))
-    (name-byte room name-room used fits base rows names byte (not-true (eqb byte 10) (and-left (not (eqb byte 10)) _ e)))
-    ∙ name-read room name-room (cond (ltb used name-room) (used + 1) used) (cond (ltb used name-room) fits false) base rows (set names used (shown byte)) name rest (and-right (not (eqb byte 10)) _ e)
 
 -- ---- one schedule, and its end
 
@@ -157,54 +101,133 @@ unfoldable pub closings : ℕ → ℕ → Book → List Schedule → Book
 closings room name-room book [] = book
 closings room name-room book (schedule ∷ rest) = closings room name-room (closed room name-room book schedule) rest
 
-abbrev begun : Book → Book
-begun book = record { night = headBegun (book .night); rows = book .rows; names = book .names }
+-- ---- the schedule at hand
+
+-- so much of its text is watched, and so much of its name is kept
+abbrev hand : Place → Watch → ℕ → Bool → Night → Night
+hand place watch used fits base = reading place watch (naming place used fits base)
+
+-- behind the rest of its name and of its text it has ended
+abbrev handClosed : ℕ → ℕ → Watch → ℕ → Bool → Night → List ℕ → List ℕ → Schedule → Book
+handClosed room name-room watch used fits base rows names schedule =
+    let all : Watch = watchAll watch (schedule .text) in
+    let night : Night = hand LineStart all (nameEnd name-room used (schedule .name)) (nameFits name-room used fits (schedule .name)) base in
+    record { night = closedBy (judged all) room night; rows = rowsClosedBy (judged all) night rows; names = spelled name-room names used (schedule .name) }
+
+-- the end of the text; what the place is there does not matter any more
+abbrev pub atLine : Night → Night
+atLine night =
+    record {
+      place = LineStart;
+      begun = night .begun;
+      watch = night .watch;
+      start = night .start;
+      used = night .used;
+      fits = night .fits;
+      listed = night .listed;
+      unlisted = night .unlisted;
+      counts = night .counts;
+    }
 
 abbrev ended : ℕ → Book → Book
-ended room book = record { night = endNight room (book .night); rows = rowsEndNight (book .night) (book .rows); names = book .names }
+ended room book = record { night = atLine (endNight room (book .night)); rows = rowsEndNight (book .night) (book .rows); names = book .names }
 
-schedule-read : (room name-room : ℕ) (book : Book) (schedule : Schedule) (rest : List ℕ) → isName (schedule .name) ≡ true
-    → hasNoHead true (schedule .text) ≡ true
-    → read room name-room (begun book) (schedule .name ++ (10 ∷ (schedule .text ++ rest)))
-    ≡ read room name-room
+-- a function of a choice
+chosen : {A B : Type 0} (f : A → B) (test : Bool) (x y : A) → f (cond test x y) ≡ cond test (f x) (f y)
+chosen f true x y = refl
+chosen f false x y = refl
+
+end-read : (room : ℕ) (place : Place) (watch : Watch) (used : ℕ) (fits : Bool) (base : Night)
+    → atLine (closedBy (judged watch) room (hand place watch used fits base)) ≡ closedBy (judged watch) room (hand LineStart watch used fits base)
+unfolding closedBy closedAs reading naming
+end-read room place watch used fits base =
+    let number : ℕ = verdictNumber (judged watch .verdict) in
+    let counts : List ℕ = countedAt (base .counts) number in
+    let at : Night = hand place watch used fits base in
+    let listed : Night = closedAs used (base .listed + 1) (base .unlisted) counts at in
+    let unlisted : Night = closedAs (base .start) (base .listed) (more (base .unlisted)) counts at in
+    let good : Night = closedAs (base .start) (base .listed) (base .unlisted) counts at in
+    let test : Bool = isListed number fits (base .listed) room in
+    chosen atLine test listed (cond (ltb number 6) unlisted good) ∙ ap (cond test (atLine listed)) (chosen atLine (ltb number 6) unlisted good)
+
+-- the rest of the text: the schedule at hand ends, and those behind it
+rest-read : (room name-room : ℕ) (place : Place) (watch : Watch) (used : ℕ) (fits : Bool) (base : Night) (rows names text : List ℕ)
+    → ended room (read room name-room (record { night = hand place watch used fits base; rows = rows; names = names }) text)
+    ≡ closings room name-room (handClosed room name-room watch used fits base rows names (atHand (cutAt place text))) (cutAt place text .behind)
+unfolding read closings nameEnd nameFits spelled cutAt atHand nameFront textFront headFront watchAll verdictOf reading naming lineByte closing rowsClosing rowsClosedBy rowPut headBegun endNight rowsEndNight afterByte afterByteIn onLineStart nameByte rowsAfterByte rowsAfterByteIn rowsOnLineStart namesAfterByte namesAfterByteIn namesAfterName
+rest-read room name-room place watch used fits base rows names [] =
+    ap (λ (night : Night). record { night = night; rows = rowsClosedBy (judged watch) (hand LineStart watch used fits base) rows; names = names })
+    (end-read room place watch used fits base)
+rest-read room name-room LineStart watch used fits base rows names (byte ∷ rest) =
+    let at : Night = hand LineStart watch used fits base in
+    let after : Night = closedBy (judged watch) room at in
+    let next : Place = cond (eqb byte 10) LineStart InLine in
+    by-value
+    (λ (b : Bool).
+    ended room (read room name-room (record { night = cond b (headBegun after) (lineByte at byte); rows = cond b (rowsClosedBy (judged watch) at rows) rows; names = names }) rest)
+    ≡ (let cut : Rest = cond b (headFront (cutAt InName rest)) (textFront byte (cutAt next rest)) in
+    closings room name-room (handClosed room name-room watch used fits base rows names (atHand cut)) (cut .behind)))
+    (eqb byte 62)
+    (λ e. rest-read room name-room InName startWatch (after .used) true (headBegun after) (rowsClosedBy (judged watch) at rows) names rest)
+    (λ e. rest-read room name-room next (watchByte watch byte) used fits base rows names rest)
+rest-read room name-room InLine watch used fits base rows names (byte ∷ rest) =
+    rest-read room name-room (cond (eqb byte 10) LineStart InLine) (watchByte watch byte) used fits base rows names rest
+rest-read room name-room InName watch used fits base rows names (byte ∷ rest) =
+    let at : Night = hand InName watch used fits base in
+    by-value
+    (λ (b : Bool).
+    ended room
+    (read room name-room
     (record {
-      night = whole name-room book schedule;
-      rows = book .rows;
-      names = spelled name-room (book .names) (book .night .used) (schedule .name);
+      night = cond b (naming LineStart used fits at) (cond (ltb used name-room) (naming InName (used + 1) fits at) (naming InName used false at));
+      rows = rows;
+      names = cond b names (set names used (shown byte));
     })
-    rest
-unfolding headBegun naming reading
-schedule-read room name-room book schedule rest n t =
-    let used = book .night .used in
-    let name = schedule .name in
-    let base = headBegun (book .night) in
-    name-read room name-room used true base (book .rows) (book .names) name (schedule .text ++ rest) n
-    ∙ text-read room name-room true startWatch (naming LineStart (nameEnd name-room used name) (nameFits name-room used true name) base) (book .rows) (spelled name-room (book .names) used name) (schedule .text) rest t
-
--- the head line of the next schedule, or the end of the text, is its end
-schedules-read : (room name-room : ℕ) (book : Book) (schedule : Schedule) (rest : List Schedule) → Schedules (schedule ∷ rest)
-    → ended room (read room name-room (begun book) (schedule .name ++ (10 ∷ (schedule .text ++ nightText rest))))
-    ≡ closings room name-room book (schedule ∷ rest)
-unfolding read nightText closings verdictOf closing rowsClosing endNight rowsEndNight reading afterByte afterByteIn onLineStart rowsAfterByte rowsAfterByteIn rowsOnLineStart namesAfterByte namesAfterByteIn
-schedules-read room name-room book schedule [] (one-more n t more) = ap (ended room) (schedule-read room name-room book schedule [] n t)
-schedules-read room name-room book schedule (next ∷ rest) (one-more n t more) =
-    ap (ended room) (schedule-read room name-room book schedule (nightText (next ∷ rest)) n t)
-    ∙ schedules-read room name-room (closed room name-room book schedule) next rest more
+    rest)
+    ≡ (let cut : Rest = cond b (cutAt LineStart rest) (nameFront byte (cutAt InName rest)) in
+    closings room name-room (handClosed room name-room watch used fits base rows names (atHand cut)) (cut .behind)))
+    (eqb byte 10)
+    (λ e. rest-read room name-room LineStart watch used fits base rows names rest)
+    (λ e. by-value
+    (λ (b : Bool).
+    ended room
+    (read room name-room
+    (record { night = cond b (naming InName (used + 1) fits at) (naming InName used false at); rows = rows; names = set names used (shown byte) })
+    rest)
+    ≡ closings room name-room
+    (handClosed room name-room watch (cond b (used + 1) used) (cond b fits false) base rows (set names used (shown byte)) (atHand (cutAt InName rest)))
+    (cutAt InName rest .behind))
+    (ltb used name-room)
+    (λ e. rest-read room name-room InName watch (used + 1) fits base rows (set names used (shown byte)) rest)
+    (λ e. rest-read room name-room InName watch used false base rows (set names used (shown byte)) rest))
 
 abbrev pub atStart : List ℕ → List ℕ → Book
 atStart rows names = record { night = startNight; rows = rows; names = names }
 
-all-read : (rows names : List ℕ) (schedules : List Schedule) → Schedules schedules
-    → ended (length rows) (read (length rows) (length names) (atStart rows names) (nightText schedules))
-    ≡ closings (length rows) (length names) (atStart rows names) schedules
-unfolding read nightText closings closing rowsClosing endNight rowsEndNight startNight afterByte afterByteIn onLineStart rowsAfterByte rowsAfterByteIn rowsOnLineStart namesAfterByte namesAfterByteIn
-all-read rows names [] none = refl
-all-read rows names (schedule ∷ rest) right = schedules-read (length rows) (length names) (atStart rows names) schedule rest right
+-- the first byte begins a schedule
+all-read : (room name-room : ℕ) (rows names text : List ℕ)
+    → ended room (read room name-room (atStart rows names) text) ≡ closings room name-room (atStart rows names) (schedulesIn text)
+unfolding read closings schedulesIn isNone cutAt atHand textFront headFront watchAll verdictOf reading naming lineByte closing rowsClosing headBegun endNight rowsEndNight startNight afterByte afterByteIn onLineStart rowsAfterByte rowsAfterByteIn rowsOnLineStart namesAfterByte namesAfterByteIn
+all-read room name-room rows names [] = refl
+all-read room name-room rows names (byte ∷ rest) =
+    let next : Place = cond (eqb byte 10) LineStart InLine in
+    by-value
+    (λ (b : Bool).
+    ended room (read room name-room (record { night = cond b (headBegun startNight) (lineByte startNight byte); rows = cond b rows rows; names = names }) rest)
+    ≡ (let cut : Rest = cond b (headFront (cutAt InName rest)) (textFront byte (cutAt next rest)) in
+    closings room name-room (atStart rows names) (cond (isNone (cut .text)) (cut .behind) (atHand cut ∷ cut .behind))))
+    (eqb byte 62)
+    (λ e. rest-read room name-room InName startWatch 0 true (headBegun startNight) rows names rest)
+    (λ e. rest-read room name-room next (watchByte startWatch byte) 0 true startNight rows names rest)
 
 -- at the end of the text
-pub all-told : (rows names : List ℕ) (schedules : List Schedule) → Schedules schedules
-    → record { night = nightAfter rows names schedules; rows = rowsAfter rows names schedules; names = namesAfter rows names schedules }
-    ≡ closings (length rows) (length names) (atStart rows names) schedules
-all-told rows names schedules right =
-    ap (ended (length rows)) (sym (read-told (length rows) (length names) (atStart rows names) (nightText schedules) refl refl))
-    ∙ all-read rows names schedules right
+pub all-told : (rows names text : List ℕ)
+    → record {
+      night = atLine (nightOf rows names text);
+      rows = rowsEndNight (afterAll (length rows) (length names) startNight text) (rowsAfterAll (length names) startNight text rows);
+      names = namesAfterAll (length rows) startNight text names;
+    }
+    ≡ closings (length rows) (length names) (atStart rows names) (schedulesIn text)
+all-told rows names text =
+    ap (ended (length rows)) (sym (read-told (length rows) (length names) (atStart rows names) text refl refl))
+    ∙ all-read (length rows) (length names) rows names text

@@ -1,3 +1,4 @@
+pub mod AnyText
 pub mod Counts
 pub mod Order
 pub mod Reading

@@ -5,18 +5,30 @@ use morning::Cursor;
 use morning::Entry;
 use morning::Night;
 
-// Writes how many schedules have each verdict.
-fn write_counts(fd: i32, counts: [u64; 7]) -> bool {
-    let schedules = morning::all_of(counts);
-    let title = words::write_number(fd, b"Morning report. Schedules: ", schedules, b"\n\n");
+// Writes how many schedules have each of the bad verdicts.
+fn write_bad_counts(fd: i32, counts: [u64; 7]) -> bool {
     let incomplete = words::write_number(fd, b"    incomplete: ", counts[0], b"\n");
     let refused = words::write_number(fd, b"    refused: ", counts[1], b"\n");
     let actions = words::write_number(fd, b"    refused actions: ", counts[2], b"\n");
     let cut = words::write_number(fd, b"    cut: ", counts[3], b"\n");
+    incomplete & refused & actions & cut
+}
+
+// Writes how many have each of the others.
+fn write_other_counts(fd: i32, counts: [u64; 7]) -> bool {
     let lost = words::write_number(fd, b"    locks lost: ", counts[4], b"\n");
     let failed = words::write_number(fd, b"    takes failed: ", counts[5], b"\n");
     let good = words::write_number(fd, b"    good: ", counts[6], b"\n");
-    title & incomplete & refused & actions & cut & lost & failed & good
+    lost & failed & good
+}
+
+// Writes how many schedules there are, and how many have each verdict.
+fn write_counts(fd: i32, counts: [u64; 7]) -> bool {
+    let schedules = morning::all_of(counts);
+    let title = words::write_number(fd, b"Morning report. Schedules: ", schedules, b"\n\n");
+    let bad = write_bad_counts(fd, counts);
+    let others = write_other_counts(fd, counts);
+    title & bad & others
 }
 
 // The smaller of two numbers.
