@@ -2,7 +2,7 @@
 -- the next head line, are the schedule's text (lines before the first head line are those of a schedule without a name). Each schedule is counted by
 -- its verdict, and one that is not good is listed: a row of seven numbers, and its name.
 use Prim.Native.Nat.{ℕ, _+_, _*_, _/_}
-use mathlib.Core.Bool.{Bool, true, false, cond, _&&_, _||_}
+use mathlib.Core.Bool.{Bool, true, false, cond, _&&_}
 use mathlib.Core.List.{List, [], _∷_}
 use lib.Dec.{eqb, ltb}
 use lib.ListN.{length, getD, replicate, set}

@@ -1,5 +1,5 @@
 // The listed schedules in the order of the report: worst first, and of one verdict in the order of the text.
-ghost use Prim.Native.Nat.{_/_, _≤_, min};
+ghost use Prim.Native.Nat.{_/_, _≤_};
 ghost use mathlib.Core.Path.{_≡_};
 ghost use lib.ListN.{length, getD};
 ghost use Rattle.morning.specs.Order.{noEntry, entryAt, placesIn, nextPlace, seek, firstEntry, nextEntry};

@@ -8,7 +8,7 @@ pub use judging::is_looked_at;
 pub use judging::judge;
 pub use judging::verdict_number;
 ghost use mathlib.Core.Path.{_≡_};
-ghost use Rattle.verdict.specs.Verdicts.{isWholeLine, noNotes, startWatch, insideLine, lineWatched, watchPart, watchByte};
+ghost use Rattle.verdict.specs.Verdicts.{isWholeLine, startWatch, insideLine, lineWatched, watchPart, watchByte};
 use gather::Gather;
 use linereader::Part;
 use linereader::Scan;
