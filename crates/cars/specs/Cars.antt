@@ -1,4 +1,4 @@
--- 01, "The plan and the things in it": rules and cars; and of number 13 what is said of a car.
+-- 01, "The plan and the things in it": rules and cars; of number 13 what is said of a car; the flag that goes with the cars sent.
 use Prim.Native.Nat.{ℕ}
 use mathlib.Core.Bool.{Bool, true, false, _&&_, _||_}
 use lib.Dec.{eqb, ltb, leb}
@@ -38,3 +38,15 @@ carNames rules nodes locks (Failp tag) = names nodes locks (tag .lock) (tag .sou
 carNames rules nodes locks (Dov tag) = names nodes locks (tag .lock) (tag .source)
 carNames rules nodes locks (Gotp notice) = noticeNames rules nodes locks notice
 carNames rules nodes locks (Didv notice) = noticeNames rules nodes locks notice
+
+-- "The in-train flag is then set by sending token, cleared by sending idle, else kept."
+-- The train flag of a junction on a subring goes likewise (crate junction).
+unfoldable pub flagAfter : Car → Bool → Bool
+flagAfter Idle flag = false
+flagAfter Token flag = true
+flagAfter Null flag = flag
+flagAfter (Reqp tag) flag = flag
+flagAfter (Failp tag) flag = flag
+flagAfter (Dov tag) flag = flag
+flagAfter (Gotp notice) flag = flag
+flagAfter (Didv notice) flag = flag

@@ -1,8 +1,9 @@
-// The cars that go round the ring, what the number of the rules says, and the test that a car names nothing that is missing (13).
+// The cars that go round the ring, what the number of the rules says, the test that a car names nothing that is missing (13), and
+// the flag that goes with the cars sent.
 ghost use mathlib.Core.Path.{_≡_};
 ghost use mathlib.Core.Bool.{false, not, _&&_, _||_};
 ghost use Prim.Native.Nat.{ℕ};
-ghost use Rattle.cars.specs.Cars.{multiring, releaseNeedsIdle, isNode, names, carNames};
+ghost use Rattle.cars.specs.Cars.{multiring, releaseNeedsIdle, isNode, names, carNames, flagAfter};
 
 // What a request carries: its lock and its source node.
 pub struct Tag {
@@ -133,4 +134,20 @@ pub fn car_names(rules: u8, nodes: u8, locks: u8, car: Car) -> bool
         return names(nodes, locks, carried.lock, carried.source);
     }
     false
+}
+
+// The in-train flag after a car was sent.
+pub fn flag_after(car: Car, flag: bool) -> bool
+    ensures { λ r. ⌜ r ≡ flagAfter car flag ⌝ }
+{
+    match car {
+        Car::Idle => false,
+        Car::Token => true,
+        Car::Null => flag,
+        Car::Reqp(tag) => flag,
+        Car::Failp(tag) => flag,
+        Car::Dov(tag) => flag,
+        Car::Gotp(notice) => flag,
+        Car::Didv(notice) => flag,
+    }
 }

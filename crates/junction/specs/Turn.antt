@@ -1,8 +1,10 @@
 -- 01, "Junction outside a local tour" and "Junction in a local tour": which of their sentences applies to a junction
--- (Rules, of crate tours), and what each does.
+-- (Rules, of crate tours), and what each does. A junction that stands on another's subring is an inner one: it may meet the shadows of cars, and
+-- its train flag tells them from the cars of a train. For an inner junction "the main ring" is the ring on which it stands.
 use Prim.Native.Nat.{ℕ}
-use mathlib.Core.Bool.{Bool, true, false, cond}
+use mathlib.Core.Bool.{Bool, true, false, cond, not, _&&_}
 use Rattle.words.specs.Words.{withLock, withoutLock}
+use Rattle.cars.specs.Cars.{flagAfter}
 use Rattle.cars.specs.declared.Car.{Car}
 use Rattle.cars.specs.declared.Car.the-variants.{Idle, Token, Null, Reqp, Failp, Dov, Gotp, Didv}
 use Rattle.tours.specs.declared.JunctionRule.{JunctionRule}
@@ -11,15 +13,20 @@ use Rattle.tours.specs.Rules.{outside, inTour}
 use Rattle.tours.specs.Sentences.{outsideSentence, tourSentence}
 use Rattle.junction.specs.declared.Junction.{Junction}
 
--- by the subring's nodes, whether one of them wants a train, the arrival on the main side and the car out of the subring
-unfoldable pub junctionRule : ℕ → ℕ → Bool → Car → Car → Junction → JunctionRule
-junctionRule low high wants arrival out junction =
-    cond (junction .tour) (inTour (junction .train) low high out) (outside (junction .word) wants arrival)
+-- the locks for which it fails a reqp: an inner junction fails none for a car that is on no train
+unfoldable pub failing : Bool → Junction → ℕ
+failing inner junction = cond (inner && not (junction .train)) 0 (junction .word)
+
+-- by whether it is an inner junction, the subring's nodes, whether one of them wants a train, the arrival on the main side and the car out of the
+-- subring
+unfoldable pub junctionRule : Bool → ℕ → ℕ → Bool → Car → Car → Junction → JunctionRule
+junctionRule inner low high wants arrival out junction =
+    cond (junction .tour) (inTour (junction .train) low high out) (outside (failing inner junction) wants arrival)
 
 -- the number of the sentence that applies
-unfoldable pub junctionSentence : ℕ → ℕ → Bool → Car → Car → Junction → ℕ
-junctionSentence low high wants arrival out junction =
-    cond (junction .tour) (tourSentence (junction .train) low high out) (outsideSentence (junction .word) wants arrival)
+unfoldable pub junctionSentence : Bool → ℕ → ℕ → Bool → Car → Car → Junction → ℕ
+junctionSentence inner low high wants arrival out junction =
+    cond (junction .tour) (tourSentence (junction .train) low high out) (outsideSentence (failing inner junction) wants arrival)
 
 -- "the arrival as it came goes to the subring as shadow, idle standing for a token"
 unfoldable pub shadow : Car → Car
@@ -48,7 +55,16 @@ junctionApply arrival out j (SetsBit lock) = joins out arrival (j .train) (j .to
 junctionApply arrival out j (ClearsBit lock) = joins out arrival (j .train) (j .tour) (withoutLock (j .word) lock)
 junctionApply arrival out j Ends = joins Idle arrival false false (j .word)
 
+-- an inner junction's train flag: set by sending a token along the ring on which it stands, cleared by sending idle there, else kept; in a tour and
+-- outside one. `old` is the flag before the turn, `new` the flag that the sentence leaves
+unfoldable pub trainAfter : Bool → Car → Bool → Bool → Bool
+trainAfter inner main old new = cond inner (flagAfter main old) new
+
+-- a junction with its train flag so
+unfoldable pub trained : Bool → Bool → Junction → Junction
+trained inner old j = joins (j .main) (j .subring) (trainAfter inner (j .main) old (j .train)) (j .tour) (j .word)
+
 -- a junction's turn in a step
-unfoldable pub junctionTurn : ℕ → ℕ → Bool → Car → Car → Junction → Junction
-junctionTurn low high wants arrival out junction =
-    junctionApply arrival out junction (junctionRule low high wants arrival out junction)
+unfoldable pub junctionTurn : Bool → ℕ → ℕ → Bool → Car → Car → Junction → Junction
+junctionTurn inner low high wants arrival out junction =
+    trained inner (junction .train) (junctionApply arrival out junction (junctionRule inner low high wants arrival out junction))

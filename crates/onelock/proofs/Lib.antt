@@ -17,7 +17,8 @@
 --   a c y z     the car that comes to a line; any car; the car that comes out of a subring or to the zero node; the car that the zero node sends
 --   t x         a car's tag; its notice;  s: its source
 --   p q o       phases: before the car that comes, behind it, at the line's end;  p′: after the step.  In Train: places and numbers of nodes
---   w f         whether shadows are allowed on a ring; a flag;  fm, fs: those that go with a junction's main car and its subring car
+--   w f         whether a ring is a subring: shadows are allowed on it, its junctions are inner; a flag;  fm, fs: those that go with a junction's
+--               main car and its subring car
 --   ka ku kn    the kind of the car that comes, of what a node sends before its turn and after it;  fa, fu, fn: the flags with them
 --   i e         the invariant, as a premise; the rear, a place that every car of the train has reached
 --   b d         bounds of homes, before and behind a list

@@ -4,7 +4,7 @@ use lib.Count.{trailingZeros}
 use Rattle.lists.specs.Loops.{every, some, total, iterate, inOrder}
 use Rattle.lists.specs.Refusal.{refusedIf}
 use Rattle.words.specs.Words.{has, withLock, withoutLock, least, allBelow}
-use Rattle.cars.specs.Cars.{multiring, releaseNeedsIdle, isNode, names, noticeNames, carNames}
+use Rattle.cars.specs.Cars.{multiring, releaseNeedsIdle, isNode, names, noticeNames, carNames, flagAfter}
 use Rattle.plan.specs.Plan.{valueAt, valueInRange, placeInRange, headsInRange, inRange, sizeOf, junctionsOf, nodesBefore, junctionsBefore, nodeCount, junctionCount}
 use Rattle.acts.specs.Actions.{wishNumber, releaseNumber, laterNumber, needsIdle, nodeNumber, busyWith, released, acted}
 use Rattle.usernode.specs.Astray.{waitsReqp, waitsDov, unready, astray}
@@ -12,13 +12,13 @@ use Rattle.usernode.specs.Node.{had, isIdle, wantsTrain}
 use Rattle.usernode.specs.Rules.{onLetting, onGap, onIdle, onReqp, onFailp, onDov, rule}
 use Rattle.usernode.specs.Sound.{activityNames, lettingAllowed, nodeSound}
 use Rattle.usernode.specs.Node.{letGo}
-use Rattle.turns.specs.Turn.{flagAfter, becomes, grantCar, apply, eventOf, turn}
+use Rattle.turns.specs.Turn.{becomes, grantCar, apply, eventOf, turn}
 use Rattle.zeronode.specs.Rules.{emptySlot, onToken, onHead, zeroRule, keeps}
 use Rattle.zeronode.specs.Sound.{placeNames, zeroSound}
 use Rattle.zeronode.specs.Turn.{shifted, headOff, sends, appended, arrives, zeroTurn, countLeft, overflows}
 use Rattle.tours.specs.Rules.{within, outside, ifTrain, onGotp, onDidv, inTour}
 use Rattle.junction.specs.Sound.{junctionSound}
-use Rattle.junction.specs.Turn.{junctionRule, shadow, joins, junctionApply, junctionTurn}
+use Rattle.junction.specs.Turn.{failing, junctionRule, shadow, joins, junctionApply, trainAfter, trained, junctionTurn}
 use Rattle.ring.specs.Actions.{actionNumber, actedState, handedBack, acting}
 use Rattle.ring.specs.Sound.{zeroPasses, nodePasses, junctionPasses, sound}
 use Rattle.ring.specs.State.{restNode, restJunction, startOf, smallPlan, startState, nodeOf}
@@ -35,7 +35,7 @@ unfolding has withLock withoutLock least allBelow trailingZeros
 of-words = 0
 
 unfoldable pub of-cars : ℕ
-unfolding multiring releaseNeedsIdle isNode names noticeNames carNames
+unfolding multiring releaseNeedsIdle isNode names noticeNames carNames flagAfter
 of-cars = 0
 
 unfoldable pub of-plan : ℕ
@@ -43,7 +43,7 @@ unfolding valueAt valueInRange placeInRange headsInRange inRange sizeOf junction
 of-plan = 0
 
 unfoldable pub of-usernode : ℕ
-unfolding wishNumber releaseNumber laterNumber needsIdle nodeNumber busyWith released acted waitsReqp waitsDov unready astray had isIdle wantsTrain onLetting onGap onIdle onReqp onFailp onDov rule activityNames lettingAllowed nodeSound flagAfter becomes grantCar letGo apply eventOf turn
+unfolding wishNumber releaseNumber laterNumber needsIdle nodeNumber busyWith released acted waitsReqp waitsDov unready astray had isIdle wantsTrain onLetting onGap onIdle onReqp onFailp onDov rule activityNames lettingAllowed nodeSound becomes grantCar letGo apply eventOf turn
 of-usernode = 0
 
 unfoldable pub of-zeronode : ℕ
@@ -51,7 +51,7 @@ unfolding emptySlot onToken onHead zeroRule keeps placeNames zeroSound shifted h
 of-zeronode = 0
 
 unfoldable pub of-junction : ℕ
-unfolding within outside ifTrain onGotp onDidv inTour junctionRule junctionSound shadow joins junctionApply junctionTurn
+unfolding within outside ifTrain onGotp onDidv inTour failing junctionRule junctionSound shadow joins junctionApply trainAfter trained junctionTurn
 of-junction = 0
 
 unfoldable pub of-ring : ℕ

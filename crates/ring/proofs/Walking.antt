@@ -76,13 +76,13 @@ node-turned state walk turned stray either t s e = simp (e, s, t)
 pub junction-turned : (state : State) (size k : ℕ) (before entered inside : Walk) (junction : Junction) (wants : Bool)
     → Inside state size (before .passed) k wants entered inside
     → size ≤ k
-    → junction ≡ junctionTurn (before .passed) (inside .passed) wants (before .last) (inside .last) (junctionHere state before)
+    → junction ≡ junctionTurn false (before .passed) (inside .passed) wants (before .last) (inside .last) (junctionHere state before)
     → walkOf (inside .passed) (before .turned + 1) (junctionHere state before .main) (inside .astray) (inside .nodes) (inside .events) (set (before .junctions) (before .turned) junction) ≡ outOfSubring state size before inside
 unfolding outOfSubring
 junction-turned state size k before entered inside junction wants h d j =
     let full : k ≡ size = omega (arith, h .below) in
     ap (λ (x : Junction). walkOf (inside .passed) (before .turned + 1) (junctionHere state before .main) (inside .astray) (inside .nodes) (inside .events) (set (before .junctions) (before .turned) x))
-    (j ∙ ap₂ (λ (x : ℕ) (y : Bool). junctionTurn (before .passed) x y (before .last) (inside .last) (junctionHere state before)) (h .passed ∙ ap (λ (n : ℕ). before .passed + n) full) (h .wanting ∙ ap (wanted state (before .passed)) full))
+    (j ∙ ap₂ (λ (x : ℕ) (y : Bool). junctionTurn false (before .passed) x y (before .last) (inside .last) (junctionHere state before)) (h .passed ∙ ap (λ (n : ℕ). before .passed + n) full) (h .wanting ∙ ap (wanted state (before .passed)) full))
 
 -- the start
 pub around-start : (state : State) → inRange (state .plan) ≡ true → Around state 0 (setOut state)

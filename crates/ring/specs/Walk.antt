@@ -88,7 +88,7 @@ outOfSubring state size before inside =
       nodes = inside .nodes;
       events = inside .events;
       junctions = set (before .junctions) (before .turned)
-          (junctionTurn (before .passed) (before .passed + size) (wanted state (before .passed) size) (before .last) (inside .last) (junctionHere state before));
+          (junctionTurn false (before .passed) (before .passed + size) (wanted state (before .passed) size) (before .last) (inside .last) (junctionHere state before));
     }
 
 -- a junction with this many nodes on its subring

@@ -75,7 +75,14 @@ impl State {
                     passed += 1;
                     k += 1;
                 }
-                junctions[turned as usize] = junction.turn(low, passed, wants, arrival, last);
+                junctions[turned as usize] = junction.turn(
+                    false,
+                    low,
+                    passed,
+                    wants,
+                    arrival,
+                    last,
+                );
                 last = junction.main;
                 turned += 1;
                 place += 1;

@@ -19,6 +19,7 @@ cars =
       release-needs-idle = (λ a. tt, λ a x y d e. same);
       is-node = (λ a. tt, λ a x y d e. same);
       car-names = (λ a. tt, λ a x y d e. same);
+      flag-after = (λ a. tt, λ a x y d e. same);
     }
 
 pub plan-of : PlanOf

@@ -8,6 +8,7 @@ use Rattle.cars.proofs.multiring.Reads as multiring
 use Rattle.cars.proofs.release_needs_idle.Reads as release-needs-idle
 use Rattle.cars.proofs.is_node.Reads as is-node
 use Rattle.cars.proofs.car_names.Reads as car-names
+use Rattle.cars.proofs.flag_after.Reads as flag-after
 use Rattle.plan.proofs.Plan.in_range.Reads as in-range
 use Rattle.plan.proofs.Plan.nodes.Reads as nodes
 use Rattle.plan.proofs.Plan.junctions.Reads as junctions
@@ -62,6 +63,7 @@ pub record Cars : Type 0 where
   pub release-needs-idle : Settled (release-needs-idle.Asked tt) (release-needs-idle.Learnt tt)
   pub is-node : Settled (is-node.Asked tt) (is-node.Learnt tt)
   pub car-names : Settled (car-names.Asked tt) (car-names.Learnt tt)
+  pub flag-after : Settled (flag-after.Asked tt) (flag-after.Learnt tt)
 
 -- plan
 pub record PlanOf : Type 0 where

@@ -1,10 +1,10 @@
--- 01, "User node": what each of the nine rules does, the event that it gives, and the in-train flag afterwards.
+-- 01, "User node": what each of the nine rules does, and the event that it gives. The in-train flag afterwards is `flagAfter`, of crate cars.
 use Prim.Native.Nat.{ℕ}
-use mathlib.Core.Bool.{Bool, true, false, cond}
+use mathlib.Core.Bool.{cond}
 use Rattle.words.specs.Words.{withLock, withoutLock}
-use Rattle.cars.specs.Cars.{multiring}
+use Rattle.cars.specs.Cars.{multiring, flagAfter}
 use Rattle.cars.specs.declared.Car.{Car}
-use Rattle.cars.specs.declared.Car.the-variants.{Idle, Token, Null, Reqp, Failp, Dov, Gotp, Didv}
+use Rattle.cars.specs.declared.Car.the-variants.{Null, Reqp, Failp, Dov, Gotp, Didv}
 use Rattle.usernode.specs.declared.Node.{Node}
 use Rattle.usernode.specs.declared.Activity.{Activity}
 use Rattle.usernode.specs.declared.Activity.the-variants.{Idle as Resting, WaitingReqp, WaitingDov}
@@ -15,17 +15,6 @@ use Rattle.turns.specs.declared.Event.the-variants.{Nothing, Granted, Fa
 use Rattle.turns.specs.declared.Turn.{Turn}
 use Rattle.usernode.specs.Node.{letGo}
 use Rattle.usernode.specs.Rules.{rule}
-
--- "The in-train flag is then set by sending token, cleared by sending idle, else kept."
-unfoldable pub flagAfter : Car → Bool → Bool
-flagAfter Idle flag = false
-flagAfter Token flag = true
-flagAfter Null flag = flag
-flagAfter (Reqp tag) flag = flag
-flagAfter (Failp tag) flag = flag
-flagAfter (Dov tag) flag = flag
-flagAfter (Gotp notice) flag = flag
-flagAfter (Didv notice) flag = flag
 
 -- the node that now sends this car, with this activity, held word and letting-go word
 unfoldable pub becomes : Node → Car → Activity → ℕ → ℕ → Node

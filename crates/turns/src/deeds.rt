@@ -1,6 +1,6 @@
 // What a rule does: the car that the node sends, its flag, activity and words afterwards, and the event.
 ghost use mathlib.Core.Path.{_≡_};
-ghost use Rattle.turns.specs.Turn.{flagAfter, becomes, grantCar, apply, eventOf};
+ghost use Rattle.turns.specs.Turn.{becomes, grantCar, apply, eventOf};
 use crate::Event;
 use cars::Car;
 use cars::Notice;
@@ -8,22 +8,6 @@ use cars::Tag;
 use usernode::Activity;
 use usernode::Node;
 use usernode::Rule;
-
-// The in-train flag after a car was sent.
-fn flag_after(car: Car, flag: bool) -> bool
-    ensures { λ r. ⌜ r ≡ flagAfter car flag ⌝ }
-{
-    match car {
-        Car::Idle => false,
-        Car::Token => true,
-        Car::Null => flag,
-        Car::Reqp(tag) => flag,
-        Car::Failp(tag) => flag,
-        Car::Dov(tag) => flag,
-        Car::Gotp(notice) => flag,
-        Car::Didv(notice) => flag,
-    }
-}
 
 // What a node sends that is granted a lock.
 fn grant_car(rules: u8, me: u8, lock: u8) -> Car
@@ -59,7 +43,7 @@ pub fn event_of(rule: Rule) -> Event
 fn becomes(node: Node, car: Car, activity: Activity, held: u64, letting: u64) -> Node
     ensures { λ r. ⌜ r ≡ becomes node car activity held letting ⌝ }
 {
-    let flag = flag_after(car, node.flag);
+    let flag = cars::flag_after(car, node.flag);
     Node {
         car: car,
         flag: flag,

@@ -2,7 +2,7 @@
 -- and the places beyond the plan are as they were.
 use Prim.Native.Nat.{ℕ, zero, suc, _+_, _≤_, _<_}
 use mathlib.Core.Path.{_≡_, refl, _∙_, sym, ap, ap₂, subst, subst₂}
-use mathlib.Core.Bool.{Bool, true, cond, _||_}
+use mathlib.Core.Bool.{Bool, true, false, cond, _||_}
 use mathlib.Core.List.{List}
 use native.Mathlib.Omega.{arith}
 use lib.Dec.{eqb, eqb·suc-zero}
@@ -129,7 +129,7 @@ module _ (a b : State) (g : Agree a (like a b)) (range : inRange (a .plan) ≡ t
         same = ap₂ (outOfSubring (like a b) size) (h .same) (i .same) ∙ ap₂ (λ (t : Bool) (x : Junction).
             walkOf (inside .passed) (before .turned + 1) (x .main) (inside .astray) (i .its-nodes) (inside .events)
             (set (h .its-junctions) (before .turned)
-            (junctionTurn (before .passed) (before .passed + size) t (before .last) (inside .last) x))) (sym wants) (sym junction);
+            (junctionTurn false (before .passed) (before .passed + size) t (before .last) (inside .last) x))) (sym wants) (sym junction);
         nodes-used = i .nodes-used;
         junctions-used = same-set gates (before .junctions) (h .its-junctions) (before .turned) _ here (h .junctions-used);
         nodes-left = i .nodes-left;

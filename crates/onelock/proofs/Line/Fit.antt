@@ -2,7 +2,7 @@
 -- k, its ring's nodes are lo + 1 to hi; the list has the cells of the line and its gates, front to back.
 use Prim.Native.Nat.{ℕ, suc, _+_, _≤_, _<_}
 use mathlib.Core.Path.{_≡_}
-use mathlib.Core.Bool.{Bool, true, false}
+use mathlib.Core.Bool.{Bool, true, false, _&&_}
 use mathlib.Core.List.{List, [], _∷_, _++_}
 use Rattle.cars.specs.declared.Car.{Car}
 use Rattle.cars.specs.declared.Car.the-variants.{Idle, Token, Null, Reqp, Failp, Dov, Gotp, Didv}
@@ -48,13 +48,14 @@ waits (WaitingDov lock) = true
 abbrev pub NoWait : Line → Type 0
 NoWait = Nodes (λ u. waits (u .activity) ≡ false)
 
--- a line that fits between two phases, with its cells: w says whether shadows are allowed on it
+-- a line that fits between two phases, with its cells: w says whether it is a subring's, so that shadows are allowed on it and its junctions are inner
 pub data Fit : Bool → ℕ → ℕ → Phase → ℕ → Line → Phase → List Cell → Type 0 where
   f-end : {w : Bool} {p : Phase} {lo hi k : ℕ} → Fit w lo hi p k end p []
   f-user : {p q o : Phase} {w : Bool} {lo hi k : ℕ} {u : Node} {r : Line} {G : List Cell} → One w p (kind (u .car)) (u .flag) q → Clean lo hi p (u .car)
       → Fit w lo hi q (suc k) r o G → Fit w lo hi p k (user u r) o (G ++ cells p (suc k) (u .car))
-  -- outside a tour nothing on the subring belongs to the train, and no node there waits while the train passes
-  f-past : {p q o : Phase} {w f : Bool} {lo hi k : ℕ} {j : Junction} {s r : Line} {G H : List Cell} → j .tour ≡ false → j .train ≡ false
+  -- outside a tour nothing on the subring belongs to the train, and no node there waits while the train passes; an inner junction's train flag says
+  -- whether what it sends belongs to the train
+  f-past : {p q o : Phase} {w f : Bool} {lo hi k : ℕ} {j : Junction} {s r : Line} {G H : List Cell} → j .tour ≡ false → j .train ≡ (w && f)
       → One true before (kind (j .subring)) false before → Clean k (k + size s) before (j .subring)
       → Fit true k (k + size s) before k s before H → (p ≡ inside → NoWait s)
       → One w p (kind (j .main)) f q → Clean lo hi p (j .main) → Fit w lo hi q (k + size s) r o G

@@ -1,7 +1,7 @@
 -- Laws of a line that fits: where its cells and gates stand, and a line that the train has passed.
 use Prim.Native.Nat.{ℕ, suc, _+_, _≤_}
 use mathlib.Core.Path.{_≡_, refl, sym, ap, _∙_, subst}
-use mathlib.Core.Bool.{Bool, true, false, true≢false}
+use mathlib.Core.Bool.{Bool, true, false, _&&_, true≢false}
 use mathlib.Core.List.{List, [], _∷_, _++_}
 use native.Mathlib.Omega.{arith}
 use Rattle.cars.specs.declared.Car.{Car}
@@ -223,6 +223,16 @@ shaded (f-past {q = q} {w = w} {f = f} {k = k} {j = j} {s = s} {G = G} {H = H} t
     }
 shaded (f-tour tour live sub inner out main rest) e = absurd (live e)
 
+-- the train flag of a junction that sends nothing of the train is clear, an inner one's too
+pub none-train : (w : Bool) → false ≡ (w && false)
+none-train true = refl
+none-train false = refl
+
+-- so it is the same on a subring and on the main ring
+same-train : (w w′ : Bool) {f : Bool} → f ≡ false → (w && f) ≡ (w′ && f)
+same-train w w′ clear =
+    ap (λ (b : Bool). w && b) clear ∙ sym (none-train w) ∙ none-train w′ ∙ ap (λ (b : Bool). w′ && b) (sym clear)
+
 -- a line that the train has passed to its end has no cell, and may as well stand before the train
 pub record Quiet (lo hi : ℕ) (p : Phase) (k : ℕ) (l : Line) (G : List Cell) : Type 0 where
   pub phase : p ≡ after
@@ -252,7 +262,7 @@ quiet (f-past {p = p} {w = w} {f = f} {lo = lo} {hi = hi} {k = k} {j = j} {s = s
       bare = all-join (λ p c. ⊥) G _ (behind .bare)
           (all-join (λ p c. ⊥) (cells p (k + size s) (j .main)) _ (subst Bare (sym none) tt) (shaded inner refl .bare));
       ahead = λ w′. subst (λ C. Fit w′ lo hi before k (junction j s r) before (G ++ (C ++ (gate k (k + size s) (j .word) ∷ H)))) (sym none)
-          (f-past tour train sub clean-sub inner (λ x. absurd (apart x)) (sender .ahead w′) (gap-clean lo hi before (j .main) (sender .idle))
+          (f-past tour (train ∙ same-train w w′ (sender .clear)) sub clean-sub inner (λ x. absurd (apart x)) (sender .ahead w′) (gap-clean lo hi before (j .main) (sender .idle))
           (behind .ahead w′));
     }
   where
@@ -265,7 +275,7 @@ quiet (f-tour {p₂ = p₂} {k = k} {j = j} tour live sub inner out main rest) e
 
 -- outside a tour, a junction's line fits where its subring ends at a number h
 pub past-at : {p q o : Phase} {w f : Bool} {lo hi k : ℕ} {j : Junction} {s r : Line} {G H : List Cell} (h : ℕ) → k + size s ≡ h → j .tour ≡ false
-    → j .train ≡ false → One true before (kind (j .subring)) false before → Clean k h before (j .subring) → Fit true k h before k s before H
+    → j .train ≡ (w && f) → One true before (kind (j .subring)) false before → Clean k h before (j .subring) → Fit true k h before k s before H
     → (p ≡ inside → NoWait s)
     → One w p (kind (j .main)) f q → Clean lo hi p (j .main) → Fit w lo hi q h r o G
     → Fit w lo hi p k (junction j s r) o (G ++ (cells p h (j .main) ++ (gate k h (j .word) ∷ H)))

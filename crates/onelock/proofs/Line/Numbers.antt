@@ -1,7 +1,7 @@
 -- The nodes of a line by their numbers: what holds of each, where a numbering agrees with the line, and what a new line leaves as it was.
 use Prim.Native.Nat.{ℕ, suc, _+_, _≤_, _<_}
 use mathlib.Core.Path.{_≡_, refl, sym, _∙_, ap, ap₂, subst}
-use mathlib.Core.Bool.{true}
+use mathlib.Core.Bool.{Bool, true}
 use mathlib.Core.Logic.{⊎-elim}
 use native.Mathlib.Nat.{eq-or-lt-of-le}
 use native.Mathlib.Omega.{arith}
@@ -43,6 +43,26 @@ pub parts-nodes : (P : Node → Type 0) (Q : Junction → Type 0) (l : Line) →
 parts-nodes P Q end x = tt
 parts-nodes P Q (user u r) x = (x .0, parts-nodes P Q r (x .1))
 parts-nodes P Q (junction j s r) x = (parts-nodes P Q s (x .1), parts-nodes P Q r (x .2))
+
+-- what holds of each junction of a line, the number before its nodes, and its subring
+abbrev pub Junctions : (ℕ → Junction → Line → Type 0) → ℕ → Line → Type 0
+Junctions P k end = Unit
+Junctions P k (user u r) = Junctions P (suc k) r
+Junctions P k (junction j s r) = P k j s × Junctions P k s × Junctions P (k + size s) r
+
+-- what follows at each node and junction holds of each
+pub parts-map : (P P′ : Node → Type 0) (Q Q′ : Junction → Type 0) → ((u : Node) → P u → P′ u) → ((j : Junction) → Q j → Q′ j) → (l : Line)
+    → Parts P Q l → Parts P′ Q′ l
+parts-map P P′ Q Q′ f g end x = tt
+parts-map P P′ Q Q′ f g (user u r) x = (f u (x .0), parts-map P P′ Q Q′ f g r (x .1))
+parts-map P P′ Q Q′ f g (junction j s r) x = (g j (x .0), parts-map P P′ Q Q′ f g s (x .1), parts-map P P′ Q Q′ f g r (x .2))
+
+-- what follows at each junction, with its subring, holds of each
+pub junctions-map : (P Q : ℕ → Junction → Line → Type 0) → ((k : ℕ) (j : Junction) (s : Line) → P k j s → Q k j s) → (k : ℕ) (l : Line)
+    → Junctions P k l → Junctions Q k l
+junctions-map P Q f k end x = tt
+junctions-map P Q f k (user u r) x = junctions-map P Q f (suc k) r x
+junctions-map P Q f k (junction j s r) x = (f k j s (x .0), junctions-map P Q f k s (x .1), junctions-map P Q f (k + size s) r (x .2))
 
 -- the numbering has the line's nodes, from k + 1 on
 abbrev pub Agrees : (ℕ → Node) → ℕ → Line → Type 0
@@ -94,20 +114,20 @@ node-at P A q k (junction j s r) x y low high =
     (at-most-or-above q (k + size s))
 
 -- a step leaves the shape of a line as it is
-pub step-size : (m k : ℕ) (a : Car) (l : Line) → size (stepLine m k a l) ≡ size l
-step-size m k a end = refl
-step-size m k a (user u r) = ap suc (step-size m (suc k) (u .car) r)
-step-size m k a (junction j s r) = ap₂ (λ (x y : ℕ). x + y) (step-size m k (j .subring) s) (step-size m (k + size s) (j .main) r)
+pub step-size : (m : ℕ) (w : Bool) (k : ℕ) (a : Car) (l : Line) → size (stepLine m w k a l) ≡ size l
+step-size m w k a end = refl
+step-size m w k a (user u r) = ap suc (step-size m w (suc k) (u .car) r)
+step-size m w k a (junction j s r) = ap₂ (λ (x y : ℕ). x + y) (step-size m true k (j .subring) s) (step-size m w (k + size s) (j .main) r)
 
 -- so its last node has the same number
-pub step-end : (m k : ℕ) (a : Car) (l : Line) → k + size (stepLine m k a l) ≡ k + size l
-step-end m k a l = ap (λ (z : ℕ). k + z) (step-size m k a l)
+pub step-end : (m : ℕ) (w : Bool) (k : ℕ) (a : Car) (l : Line) → k + size (stepLine m w k a l) ≡ k + size l
+step-end m w k a l = ap (λ (z : ℕ). k + z) (step-size m w k a l)
 
 -- a line without junctions has none after a step
-pub step-users : (m k : ℕ) (a : Car) (l : Line) → Users l → Users (stepLine m k a l)
-step-users m k a end x = tt
-step-users m k a (user u r) x = step-users m (suc k) (u .car) r x
-step-users m k a (junction j s r) x = x
+pub step-users : (m : ℕ) (w : Bool) (k : ℕ) (a : Car) (l : Line) → Users l → Users (stepLine m w k a l)
+step-users m w k a end x = tt
+step-users m w k a (user u r) x = step-users m w (suc k) (u .car) r x
+step-users m w k a (junction j s r) x = x
 
 -- what holds of the car that comes to a line and of each car sent on it holds of the last one
 pub cars-out : (P : Car → Type 0) (a : Car) (l : Line) → P a → Cars P l → P (out a l)

@@ -1,7 +1,7 @@
 -- A ring as a line: what stands on it from one place to the zero node, a junction with its subring's line. Every node and junction
--- takes its turn by the model's own rules; junctions may stand in subrings.
+-- takes its turn by the model's own rules; junctions may stand in subrings, and are inner junctions there.
 use Prim.Native.Nat.{ℕ, suc, _+_}
-use mathlib.Core.Bool.{Bool, false, cond, _||_}
+use mathlib.Core.Bool.{Bool, true, false, cond, _||_}
 use lib.Dec.{eqb}
 use Rattle.cars.specs.declared.Car.{Car}
 use Rattle.usernode.specs.declared.Node.{Node}
@@ -35,13 +35,13 @@ wanting end = false
 wanting (user u r) = wantsTrain u || wanting r
 wanting (junction j s r) = wanting s || wanting r
 
--- one step, a car coming to it: each takes the car that was sent before it
-abbrev pub stepLine : ℕ → ℕ → Car → Line → Line
-stepLine m k a end = end
-stepLine m k a (user u r) = user (turn m (suc k) a u .node) (stepLine m (suc k) (u .car) r)
-stepLine m k a (junction j s r) =
-    junction (junctionTurn k (k + size s) (wanting s) a (out (j .subring) s) j) (stepLine m k (j .subring) s)
-    (stepLine m (k + size s) (j .main) r)
+-- one step, a car coming to it: each takes the car that was sent before it; w says whether the line is a subring's
+abbrev pub stepLine : ℕ → Bool → ℕ → Car → Line → Line
+stepLine m w k a end = end
+stepLine m w k a (user u r) = user (turn m (suc k) a u .node) (stepLine m w (suc k) (u .car) r)
+stepLine m w k a (junction j s r) =
+    junction (junctionTurn w k (k + size s) (wanting s) a (out (j .subring) s) j) (stepLine m true k (j .subring) s)
+    (stepLine m w (k + size s) (j .main) r)
 
 -- all nodes of a line put anew
 abbrev pub view : ℕ → Line → (ℕ → Node) → ℕ → Node

@@ -15,7 +15,8 @@ use Rattle.usernode.specs.declared.Activity.the-variants.{WaitingReqp, WaitingD
 use Rattle.usernode.specs.Node.{had}
 use Rattle.turns.specs.declared.Event.{Event}
 use Rattle.usernode.specs.Node.{letGo}
-use Rattle.turns.specs.Turn.{flagAfter, becomes, grantCar}
+use Rattle.cars.specs.Cars.{flagAfter}
+use Rattle.turns.specs.Turn.{becomes, grantCar}
 use Rattle.onelock.proofs.Train.Cells.{Cell, cell, Bare, Gateless, asks, request, Names}
 use Rattle.onelock.proofs.Train.CellLaws.{gates-join}
 use Rattle.onelock.proofs.Train.Invariant.{Inv}

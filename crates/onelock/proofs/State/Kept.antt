@@ -69,11 +69,11 @@ module _ (s : State) (x : Kept s) where
 
   -- the ring after a step fits, by what the zero node sends and what is left of its queue
   next-whole : Whole rules nodes (sentBy (queueOf (s .zeroth)) (walk s .last)) (queueAfter (queueOf (s .zeroth)) (walk s .last))
-      (stepLine rules 0 (s .zeroth .car) (lineOf s))
+      (stepLine rules false 0 (s .zeroth .car) (lineOf s))
   next-whole =
       subst
       (λ (y : Car). Whole rules nodes (sentBy (queueOf (s .zeroth)) y) (queueAfter (queueOf (s .zeroth)) y)
-      (stepLine rules 0 (s .zeroth .car) (lineOf s)))
+      (stepLine rules false 0 (s .zeroth .car) (lineOf s)))
       (sym (walk-last s))
       (whole-step rules nodes (s .zeroth .car) (queueOf (s .zeroth)) (lineOf s) (line-small s (x .pass)) (line-cars s (x .pass)) (x .whole))
 

@@ -32,10 +32,9 @@ use Rattle.ring.proofs.Sound.Node.{names-lock, sound-car, in-plan}
 use Rattle.ring.proofs.Sound.Junction.{junction-in-plan}
 use Rattle.onelock.proofs.Train.Cells.{Names}
 use Rattle.onelock.proofs.Line.Ring.{Line}
-use Rattle.onelock.proofs.Line.Numbers.{Nodes, Cars, Users, Parts, parts-nodes}
+use Rattle.onelock.proofs.Line.Numbers.{Nodes, Cars, Users, Parts, parts-nodes, Junctions}
 use Rattle.onelock.proofs.Node.Rules.{Small, LowNotice}
 use Rattle.onelock.proofs.Whole.Start.{Fresh}
-use Rattle.onelock.proofs.Whole.Words.{Junctions}
 use Rattle.onelock.proofs.State.AsLine.{usersFrom, positionAt, positionsFrom, lineOf}
 use Rattle.onelock.proofs.State.Through.{users-size}
 

@@ -1,7 +1,7 @@
 -- The model's walk through a part of the line, from any walk on: what it ends with, and what it leaves of the part's nodes and junctions.
 use Prim.Native.Nat.{ℕ, zero, suc, _+_, _-_, _≤_, _<_}
 use mathlib.Core.Path.{_≡_, refl, _∙_, sym, ap, ap₂, subst}
-use mathlib.Core.Bool.{Bool, or-false, _||_, or-assoc}
+use mathlib.Core.Bool.{Bool, true, false, or-false, _||_, or-assoc}
 use mathlib.Core.List.{List}
 use native.Mathlib.Nat.{add-zero}
 use native.Mathlib.Numerals.{add-one}
@@ -81,22 +81,22 @@ pub record Made (s : State) (w : Walk) (number : ℕ) (arrival : Car) (u : Node)
 abbrev pub Part : Type 0
 Part = List Node → List Junction → Line
 
--- what a later walk x made of a part that the walk w came to
-pub record Steps (s : State) (part : Part) (w x : Walk) : Type 0 where
-  pub line : part (x .nodes) (x .junctions) ≡ stepLine (s .plan .rules) (w .passed) (w .last) (part (s .nodes) (s .junctions))
+-- what a later walk x made of a part that the walk w came to; inner says whether the part stands on a subring
+pub record Steps (s : State) (inner : Bool) (part : Part) (w x : Walk) : Type 0 where
+  pub line : part (x .nodes) (x .junctions) ≡ stepLine (s .plan .rules) inner (w .passed) (w .last) (part (s .nodes) (s .junctions))
   pub acts : Meets (Made s x) (w .passed) (w .last) (part (s .nodes) (s .junctions))
 
 -- the walk w went through a part and is then v
-pub record Through (s : State) (part : Part) (w v : Walk) : Type 0 where
+pub record Through (s : State) (inner : Bool) (part : Part) (w v : Walk) : Type 0 where
   pub last : v .last ≡ out (w .last) (part (s .nodes) (s .junctions))
   pub astray : v .astray ≡ (w .astray || strays (w .passed) (w .last) (part (s .nodes) (s .junctions)))
   pub passed : v .passed ≡ w .passed + size (part (s .nodes) (s .junctions))
   pub later : Later w v
-  pub after : (x : Walk) → Room x → Later v x → Steps s part w x
+  pub after : (x : Walk) → Room x → Later v x → Steps s inner part w x
 
 -- through the empty part
-pub through-end : (s : State) (w : Walk) → Through s (λ ns js. end) w w
-through-end s w =
+pub through-end : (s : State) (inner : Bool) (w : Walk) → Through s inner (λ ns js. end) w w
+through-end s inner w =
     record {
       last = refl;
       astray = sym (or-false (w .astray));
@@ -163,9 +163,9 @@ made-node s w x f l =
     }
 
 -- through a user node and what is behind it
-pub through-node : (s : State) (rest : Part) (w z : Walk) → Through s rest (pastNode s w) z
-    → Through s (λ ns js. user (getD ns (w .passed) restNode) (rest ns js)) w z
-through-node s rest w z t =
+pub through-node : (s : State) (inner : Bool) (rest : Part) (w z : Walk) → Through s inner rest (pastNode s w) z
+    → Through s inner (λ ns js. user (getD ns (w .passed) restNode) (rest ns js)) w z
+through-node s inner rest w z t =
     record {
       last = t .last;
       astray = t .astray ∙ or-assoc (w .astray) _ _;
@@ -180,12 +180,12 @@ through-node s rest w z t =
     }
 
 -- through the user nodes of a subring
-through-users : (s : State) (n : ℕ) (w : Walk) → Through s (λ ns js. usersFrom ns (w .passed) n) w (iterate (onNode s) n w)
+through-users : (s : State) (n : ℕ) (w : Walk) → Through s true (λ ns js. usersFrom ns (w .passed) n) w (iterate (onNode s) n w)
 unfolding iterate
-through-users s zero w = through-end s w
+through-users s zero w = through-end s true w
 through-users s (suc n) w =
-    subst (Through s (λ ns js. usersFrom ns (w .passed) (suc n)) w) (sym (iterate-first (onNode s) n w ∙ ap (iterate (onNode s) n) (past-node s w)))
-    (through-node s (λ ns js. usersFrom ns (suc (w .passed)) n) w _ (through-users s n (pastNode s w)))
+    subst (Through s true (λ ns js. usersFrom ns (w .passed) (suc n)) w) (sym (iterate-first (onNode s) n w ∙ ap (iterate (onNode s) n) (past-node s w)))
+    (through-node s true (λ ns js. usersFrom ns (suc (w .passed)) n) w _ (through-users s n (pastNode s w)))
 
 -- the user nodes of a subring leave the count of the junctions
 users-turned : (s : State) (n : ℕ) (w : Walk) → iterate (onNode s) n w .turned ≡ w .turned
@@ -238,7 +238,7 @@ module _ (s : State) (v : ℕ) (w : Walk) where
   users = usersFrom (s .nodes) (w .passed) v
 
   -- through the subring
-  inner : Through s (λ ns js. usersFrom ns (w .passed) v) (intoSubring s w) inside
+  inner : Through s true (λ ns js. usersFrom ns (w .passed) v) (intoSubring s w) inside
   unfolding intoSubring
   inner = through-users s v (intoSubring s w)
 
@@ -289,18 +289,18 @@ module _ (s : State) (v : ℕ) (w : Walk) where
 
   -- what any later walk has of the junction
   junction-after : (x : Walk) → Room x → Later behind x → getD (x .junctions) (w .turned) restJunction
-      ≡ junctionTurn (w .passed) (w .passed + size users) (wanting users) (w .last) (out (here .subring) users) here
+      ≡ junctionTurn false (w .passed) (w .passed + size users) (wanting users) (w .last) (out (here .subring) users) here
   unfolding intoSubring outOfSubring junctionHere
   junction-after x f l =
       l .junctions (w .turned) (omega arith)
       ∙ getD-set-same (w .junctions) (w .turned) _ restJunction (omega (arith, l .turned, f .junctions, l .junction-places, later-junction .junction-places))
-      ∙ ap₂ (λ (n : ℕ) (b : Bool). junctionTurn (w .passed) (w .passed + n) b (w .last) (inside .last) here)
+      ∙ ap₂ (λ (n : ℕ) (b : Bool). junctionTurn false (w .passed) (w .passed + n) b (w .last) (inside .last) here)
       (sym (users-size (s .nodes) (w .passed) v)) (wanted-users s (w .passed) v)
-      ∙ ap (λ (c : Car). junctionTurn (w .passed) (w .passed + size users) (wanting users) (w .last) c here) (inner .last)
+      ∙ ap (λ (c : Car). junctionTurn false (w .passed) (w .passed + size users) (wanting users) (w .last) c here) (inner .last)
 
   -- through the junction and what is behind it
-  pub through-junction : (rest : Part) (z : Walk) → Through s rest behind z
-      → Through s (λ ns js. junction (getD js (w .turned) restJunction) (usersFrom ns (w .passed) v) (rest ns js)) w z
+  pub through-junction : (rest : Part) (z : Walk) → Through s false rest behind z
+      → Through s false (λ ns js. junction (getD js (w .turned) restJunction) (usersFrom ns (w .passed) v) (rest ns js)) w z
   unfolding intoSubring outOfSubring junctionHere
   through-junction rest z t =
       let m : ℕ = s .plan .rules in
@@ -316,8 +316,8 @@ module _ (s : State) (v : ℕ) (w : Walk) where
             let o = t .after x f l in
             record {
               line = ap₂ (λ (j : Junction) (q : Line). junction j q (rest (x .nodes) (x .junctions))) (junction-after x f n) (i .line)
-                  ∙ ap (λ (q : Line). junction (junctionTurn (w .passed) (w .passed + size users) (wanting users) (w .last) (out (here .subring) users) here)
-                  (stepLine m (w .passed) (here .subring) users) q) (o .line ∙ ap (λ (k : ℕ). stepLine m k (here .main) r) (inner .passed));
+                  ∙ ap (λ (q : Line). junction (junctionTurn false (w .passed) (w .passed + size users) (wanting users) (w .last) (out (here .subring) users) here)
+                  (stepLine m true (w .passed) (here .subring) users) q) (o .line ∙ ap (λ (k : ℕ). stepLine m false k (here .main) r) (inner .passed));
               acts = (i .acts, subst (λ (k : ℕ). Meets (Made s x) k (here .main) r) (inner .passed) (o .acts));
             };
       }

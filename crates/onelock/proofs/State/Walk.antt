@@ -1,7 +1,7 @@
 -- The model's walk and step, seen on the line: the walk's last car, a node astray, the line after the step, and what each node does.
 use Prim.Native.Nat.{ℕ, zero, suc, _+_, _-_, _≤_}
 use mathlib.Core.Path.{_≡_, refl, _∙_, sym, ap, subst₂}
-use mathlib.Core.Bool.{true}
+use mathlib.Core.Bool.{true, false}
 use mathlib.Core.List.{List}
 use native.Mathlib.Nat.{add-zero}
 use native.Mathlib.Numerals.{add-one}
@@ -67,17 +67,17 @@ goneOn s place n x = fromPlace (onPosition s) (suc place) n x
 
 -- the places of the nodes and junctions still to come are where the walk is
 go-on : (s : State) (place n : ℕ) (x : Walk) (i j : ℕ) → x .passed ≡ i → x .turned ≡ j
-    → Through s (further s place n (x .passed) (x .turned)) x (goneOn s place n x) → Through s (further s place n i j) x (goneOn s place n x)
-go-on s place n x i j p t h = subst₂ (λ (a b : ℕ). Through s (further s place n a b) x (goneOn s place n x)) p t h
+    → Through s false (further s place n (x .passed) (x .turned)) x (goneOn s place n x) → Through s false (further s place n i j) x (goneOn s place n x)
+go-on s place n x i j p t h = subst₂ (λ (a b : ℕ). Through s false (further s place n a b) x (goneOn s place n x)) p t h
 
 -- through a position and those behind it
 through-position : (s : State) (place n : ℕ) (w : Walk) (v : ℕ) → valueAt (s .plan) place ≡ v
-    → ((x : Walk) → Through s (further s place n (x .passed) (x .turned)) x (goneOn s place n x))
-    → Through s (λ ns js. positionAt ns js v (w .passed) (w .turned) (further s place n (w .passed + sizeOf v) (w .turned + junctionsOf v) ns js)) w
+    → ((x : Walk) → Through s false (further s place n (x .passed) (x .turned)) x (goneOn s place n x))
+    → Through s false (λ ns js. positionAt ns js v (w .passed) (w .turned) (further s place n (w .passed + sizeOf v) (w .turned + junctionsOf v) ns js)) w
     (goneOn s place n (onPosition s place w))
 unfolding sizeOf junctionsOf
 through-position s place n w zero e rest =
-    rw (past-user s place w e) (through-node s _ w _
+    rw (past-user s place w e) (through-node s false _ w _
     (go-on s place n (pastNode s w) _ _ (sym (add-one (w .passed))) (sym (add-zero (w .turned))) (rest (pastNode s w))))
 through-position s place n w (suc v) e rest =
     rw (past-junction s place v w e) (through-junction s (suc v) w _ _
@@ -86,12 +86,12 @@ through-position s place n w (suc v) e rest =
 
 -- through so many positions from a place on
 through-positions : (s : State) (n place : ℕ) (w : Walk)
-    → Through s (λ ns js. positionsFrom (s .plan) ns js place n (w .passed) (w .turned)) w (fromPlace (onPosition s) place n w)
-through-positions s zero place w = through-end s w
+    → Through s false (λ ns js. positionsFrom (s .plan) ns js place n (w .passed) (w .turned)) w (fromPlace (onPosition s) place n w)
+through-positions s zero place w = through-end s false w
 through-positions s (suc n) place w = through-position s place n w (valueAt (s .plan) place) refl (through-positions s n (suc place))
 
 -- the whole walk goes through the whole line
-pub through-walk : (s : State) → Through s (λ ns js. positionsFrom (s .plan) ns js 0 (s .plan .positions) 0 0) (setOut s) (walk s)
+pub through-walk : (s : State) → Through s false (λ ns js. positionsFrom (s .plan) ns js 0 (s .plan .positions) 0 0) (setOut s) (walk s)
 unfolding setOut walk
 through-walk s = rw (from-first (onPosition s) (s .plan .positions) (setOut s)) (through-positions s (s .plan .positions) 0 (setOut s))
 
@@ -154,7 +154,7 @@ has-room s r f =
     }
 
 -- the line after a step
-pub line-next : (s : State) → inRange (s .plan) ≡ true → Formed s → lineOf (nextState s) ≡ stepLine (s .plan .rules) 0 (s .zeroth .car) (lineOf s)
+pub line-next : (s : State) → inRange (s .plan) ≡ true → Formed s → lineOf (nextState s) ≡ stepLine (s .plan .rules) false 0 (s .zeroth .car) (lineOf s)
 unfolding nextState setOut
 line-next s r f = through-walk s .after (walk s) (has-room s r f) (later-self (walk s)) .line
 

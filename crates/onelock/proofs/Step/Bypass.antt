@@ -14,7 +14,7 @@ use Rattle.usernode.specs.Node.{had}
 use Rattle.junction.specs.declared.Junction.{Junction}
 use Rattle.tours.specs.declared.JunctionRule.the-variants.{GoesOn, FailsReqp}
 use Rattle.tours.specs.Rules.{outside, inTour}
-use Rattle.junction.specs.Turn.{junctionRule, shadow, joins, junctionApply, junctionTurn}
+use Rattle.junction.specs.Turn.{failing, junctionRule, shadow, joins, junctionApply, trainAfter, trained, junctionTurn}
 use Rattle.onelock.proofs.Train.Cells.{Cell, cell, gate, All, Gates, Bare, asks, request, noticed}
 use Rattle.onelock.proofs.Train.CellLaws.{all-right, all-both, all-join, all-bare, words-right, fold-far}
 use Rattle.onelock.proofs.Train.Invariant.{Ok, Inv}
@@ -22,29 +22,31 @@ use Rattle.onelock.proofs.Train.CarMoves.{Goes, goes, passes}
 use Rattle.onelock.proofs.Train.Passing.{goes-past, goes-failed}
 use Rattle.onelock.proofs.Line.Phases.{token, kind}
 
--- what a junction outside a tour becomes, by the car that comes to it
-pub data Passing (j : Junction) (wants : Bool) (a : Car) : Junction → Type 0 where
-  goes-by : (kind a ≡ token → wants ≡ false) → ((t : Tag) → a ≡ Reqp t → has (j .word) (t .lock) ≡ false)
-      → Passing j wants a (joins a (shadow a) (j .train) (j .tour) (j .word))
-  fails-by : (t : Tag) → a ≡ Reqp t → Passing j wants a (joins (Failp t) (shadow a) (j .train) (j .tour) (j .word))
-  begins : a ≡ Token → wants ≡ true → Passing j wants a (joins Idle Token (j .train) true (j .word))
+-- what a junction outside a tour becomes, by the car that comes to it; w says whether it is an inner one
+pub data Passing (w : Bool) (j : Junction) (wants : Bool) (a : Car) : Junction → Type 0 where
+  goes-by : (kind a ≡ token → wants ≡ false) → ((t : Tag) → a ≡ Reqp t → has (failing w j) (t .lock) ≡ false)
+      → Passing w j wants a (joins a (shadow a) (trainAfter w a (j .train) (j .train)) (j .tour) (j .word))
+  fails-by : (t : Tag) → a ≡ Reqp t
+      → Passing w j wants a (joins (Failp t) (shadow a) (trainAfter w (Failp t) (j .train) (j .train)) (j .tour) (j .word))
+  begins : a ≡ Token → wants ≡ true → Passing w j wants a (joins Idle Token (trainAfter w Idle (j .train) (j .train)) true (j .word))
 
-module _ (j : Junction) (y : Car) where
+module _ (w : Bool) (j : Junction) (y : Car) where
   -- a car that is neither the token nor a reqp goes by
   plain-by : (wants : Bool) (a : Car) → (kind a ≡ token → ⊥) → ((t : Tag) → a ≡ Reqp t → ⊥)
-      → Passing j wants a (joins a (shadow a) (j .train) (j .tour) (j .word))
+      → Passing w j wants a (joins a (shadow a) (trainAfter w a (j .train) (j .train)) (j .tour) (j .word))
   plain-by wants a no-token no-reqp = goes-by (λ e. absurd (no-token e)) (λ t e. absurd (no-reqp t e))
 
   -- by the rule outside a tour it is one of the three
-  by-rule : (wants : Bool) (a : Car) → Passing j wants a (junctionApply a y j (outside (j .word) wants a))
-  unfolding junctionApply outside shadow
+  by-rule : (wants : Bool) (a : Car) → Passing w j wants a (trained w (j .train) (junctionApply a y j (outside (failing w j) wants a)))
+  unfolding junctionApply outside shadow trained joins
   by-rule wants Idle = plain-by wants Idle (λ e. true≢false (cc)) (λ t e. true≢false (cc))
   by-rule true Token = begins refl refl
   by-rule false Token = goes-by (λ e. refl) (λ t e. (cc))
   by-rule wants Null = plain-by wants Null (λ e. true≢false (cc)) (λ t e. true≢false (cc))
-  by-rule wants (Reqp t) = go (has (j .word) (t .lock)) refl
+  by-rule wants (Reqp t) = go (has (failing w j) (t .lock)) refl
     where
-      go : (b : Bool) → has (j .word) (t .lock) ≡ b → Passing j wants (Reqp t) (junctionApply (Reqp t) y j (cond b (FailsReqp t) GoesOn))
+      go : (b : Bool) → has (failing w j) (t .lock) ≡ b
+          → Passing w j wants (Reqp t) (trained w (j .train) (junctionApply (Reqp t) y j (cond b (FailsReqp t) GoesOn)))
       go true e = fails-by t refl
       go false e = goes-by (λ z. absurd (true≢false (cc))) (λ t′ z. (cc))
   by-rule wants (Failp t) = plain-by wants (Failp t) (λ e. true≢false (cc)) (λ t e. true≢false (cc))
@@ -53,10 +55,11 @@ module _ (j : Junction) (y : Car) where
   by-rule wants (Didv x) = plain-by wants (Didv x) (λ e. true≢false (cc)) (λ t e. true≢false (cc))
 
   -- so is every turn outside a tour
-  pub passing : (lo hi : ℕ) (wants : Bool) (a : Car) → j .tour ≡ false → Passing j wants a (junctionTurn lo hi wants a y j)
+  pub passing : (lo hi : ℕ) (wants : Bool) (a : Car) → j .tour ≡ false → Passing w j wants a (junctionTurn w lo hi wants a y j)
   unfolding junctionTurn junctionRule
   passing lo hi wants a out =
-      subst (λ (b : Bool). Passing j wants a (junctionApply a y j (cond b (inTour (j .train) lo hi y) (outside (j .word) wants a)))) (sym out) (by-rule wants a)
+      subst (λ (b : Bool). Passing w j wants a
+      (trained w (j .train) (junctionApply a y j (cond b (inTour (j .train) lo hi y) (outside (failing w j) wants a))))) (sym out) (by-rule wants a)
 
 -- a junction with nodes k + 1 to h that is passed by: H are the gates of its subring, B is what is behind
 pub record Side (n k h : ℕ) (H B : List Cell) : Type 0 where

@@ -38,7 +38,7 @@ turned-calm (passes a other free) clear calm = calm
 
 -- so no node of a line comes to wait in a step, where the train has not come to the line
 pub calm-step : {w : Bool} {lo hi k : ℕ} {p o : Phase} {G : List Cell} (m : ℕ) (a : Car) (l : Line) → Fit w lo hi p k l o G → p ≡ before
-    → Nodes Small l → NoWait l → NoWait (stepLine m k a l)
+    → Nodes Small l → NoWait l → NoWait (stepLine m w k a l)
 calm-step m a end f-end e small calm = tt
 calm-step m a (user u r) (f-user {k = k} one clean rest) e small calm =
     (turned-calm (turned m (suc k) u (small .0 .letting) a) (off one e .clear) (calm .0), calm-step m (u .car) r rest (off one e .phase) (small .1) (calm .1))

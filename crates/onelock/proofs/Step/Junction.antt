@@ -2,7 +2,7 @@
 -- together again when the subring has made its own.
 use Prim.Native.Nat.{ℕ, _+_, _≤_}
 use mathlib.Core.Path.{_≡_, sym, ap, ap₂, _∙_, subst}
-use mathlib.Core.Bool.{Bool}
+use mathlib.Core.Bool.{Bool, true}
 use mathlib.Core.Logic.{_⊎_}
 use mathlib.Core.List.{List, _∷_, _++_, append-assoc}
 use native.Mathlib.Omega.{arith}
@@ -36,15 +36,15 @@ pub record Closed (m n : ℕ) (w : Bool) (lo hi : ℕ) (p′ q : Phase) (k : ℕ
     (A : ℕ → Node) : Type 0 where
   pub front : List Cell
   pub rear : ℕ
-  pub fit : Fit w lo hi p′ k (junction j′ (stepLine m k (j .subring) s) (stepLine m (k + size s) (j .main) r)) phase front
+  pub fit : Fit w lo hi p′ k (junction j′ (stepLine m true k (j .subring) s) (stepLine m w (k + size s) (j .main) r)) phase front
   pub grew : (rear ≡ e) ⊎ (q ≡ after)
   pub inv : Inv n rear (F ++ (cells phase (k + (size s + size r)) (out (j .main) r) ++ (front ++ B)))
-      (view k (junction j′ (stepLine m k (j .subring) s) (stepLine m (k + size s) (j .main) r)) A)
+      (view k (junction j′ (stepLine m true k (j .subring) s) (stepLine m w (k + size s) (j .main) r)) A)
 
 -- the line after the step, by the junction put back into it
 pub joined : {m n : ℕ} {w f : Bool} {lo hi k e : ℕ} {p′ q o : Phase} {A : ℕ → Node} {a : Car} {j : Junction} {s r : Line} {F B : List Cell} (phase : Phase)
     → One w phase (kind (out (j .main) r)) f o → Clean lo hi phase (out (j .main) r)
-    → Closed m n w lo hi p′ q k j (junctionTurn k (k + size s) (wanting s) a (out (j .subring) s) j) s r phase F B e A
+    → Closed m n w lo hi p′ q k j (junctionTurn w k (k + size s) (wanting s) a (out (j .subring) s) j) s r phase F B e A
     → Moved m n w lo hi p′ q k a (junction j s r) o F B e A
 joined {f = f} phase final clean c =
     record { phase = phase; flag = f; front = c .front; rear = c .rear; fit = c .fit; last = final; clean = clean; grew = c .grew; inv = c .inv }
@@ -54,7 +54,7 @@ module _ {m n : ℕ} (k : ℕ) {w : Bool} {lo hi e : ℕ} {p q o : Phase} {A : �
     (R : Moved m n w lo hi p q (k + size s) (j .main) r o F Y e A) where
   -- the nodes then
   abbrev pub nodesThen : ℕ → Node
-  nodesThen = view (k + size s) (stepLine m (k + size s) (j .main) r) A
+  nodesThen = view (k + size s) (stepLine m w (k + size s) (j .main) r) A
 
   -- the cell of the rest's last car
   abbrev lastCell : List Cell
@@ -77,19 +77,19 @@ module _ {m n : ℕ} (k : ℕ) {w : Bool} {lo hi e : ℕ} {p q o : Phase} {A : �
 
   -- the subring has made its step too: C are the cells of the junction's main car, S those of the subring, D those of the car behind it
   pub closing : (rear word : ℕ) (B C S D T : List Cell) → S ++ D ≡ T
-      → Inv n rear (cellsThen ++ (C ++ (gate k (k + size s) word ∷ (S ++ (D ++ B))))) (view k (stepLine m k (j .subring) s) nodesThen)
+      → Inv n rear (cellsThen ++ (C ++ (gate k (k + size s) word ∷ (S ++ (D ++ B))))) (view k (stepLine m true k (j .subring) s) nodesThen)
       → Inv n rear (F ++ (cells (R .phase) (k + (size s + size r)) (out (j .main) r) ++ ((R .front ++ (C ++ (gate k (k + size s) word ∷ T))) ++ B)))
-      (view k (stepLine m k (j .subring) s) (view (k + size (stepLine m k (j .subring) s)) (stepLine m (k + size s) (j .main) r) A))
+      (view k (stepLine m true k (j .subring) s) (view (k + size (stepLine m true k (j .subring) s)) (stepLine m w (k + size s) (j .main) r) A))
   closing rear word B C S D T is i =
-      subst (λ (z : ℕ). Inv n rear (whole (k + (size s + size r)) T) (view k s₁ (view z r₁ A))) (sym (step-end m k (j .subring) s))
+      subst (λ (z : ℕ). Inv n rear (whole (k + (size s + size r)) T) (view k s₁ (view z r₁ A))) (sym (step-end m true k (j .subring) s))
       (subst (λ L. Inv n rear L (view k s₁ nodesThen))
       (junction-list F lastCell (R .front) C S D B (gate k (k + size s) word) ∙ ap₂ whole (omega arith) is) i)
     where
       s₁ : Line
-      s₁ = stepLine m k (j .subring) s
+      s₁ = stepLine m true k (j .subring) s
 
       r₁ : Line
-      r₁ = stepLine m (k + size s) (j .main) r
+      r₁ = stepLine m w (k + size s) (j .main) r
 
       whole : ℕ → List Cell → List Cell
       whole z L = F ++ (cells (R .phase) z (out (j .main) r) ++ ((R .front ++ (C ++ (gate k (k + size s) word ∷ L))) ++ B))

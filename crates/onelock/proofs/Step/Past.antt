@@ -1,15 +1,17 @@
--- A junction outside a tour: how the car that comes to it stands in the train, its shadow on the subring, and the rest of the line in its place.
+-- A junction outside a tour: how the car that comes to it stands in the train, its shadow on the subring, its train flag, and the rest of the line in
+-- its place.
 use Prim.Native.Nat.{ℕ, _+_, _≤_, _<_}
 use mathlib.Core.Path.{_≡_, refl, sym, ap, _∙_, subst}
-use mathlib.Core.Bool.{Bool, true, false, true≢false}
+use mathlib.Core.Bool.{Bool, true, false, cond, not, _&&_, true≢false}
 use mathlib.Core.List.{List, _∷_, _++_, append-assoc}
 use native.Mathlib.Omega.{arith}
+use Rattle.cars.specs.Cars.{flagAfter}
 use Rattle.cars.specs.declared.Car.{Car}
 use Rattle.cars.specs.declared.Car.the-variants.{Idle, Token, Null, Reqp, Failp, Dov, Gotp, Didv}
 use Rattle.usernode.specs.declared.Node.{Node}
 use Rattle.usernode.specs.declared.Activity.{Activity}
 use Rattle.junction.specs.declared.Junction.{Junction}
-use Rattle.junction.specs.Turn.{shadow}
+use Rattle.junction.specs.Turn.{failing, shadow, trainAfter}
 use Rattle.onelock.proofs.Train.Cells.{Cell, gate, Bare, asks, request}
 use Rattle.onelock.proofs.Train.CellLaws.{all-right, all-join}
 use Rattle.onelock.proofs.Train.Invariant.{Ok, Inv}
@@ -64,6 +66,66 @@ shadow-one (Failp t) = shade refl
 shadow-one (Dov t) = shade refl
 shadow-one (Gotp x) = shade refl
 shadow-one (Didv x) = shade refl
+
+-- the flag that goes with the cars sent, by the kind of the car
+abbrev kindFlag : Kind → Bool → Bool
+kindFlag token flag = true
+kindFlag gap flag = false
+kindFlag car flag = flag
+
+-- so it is for every car
+flag-kind : (c : Car) (flag : Bool) → flagAfter c flag ≡ kindFlag (kind c) flag
+unfolding flagAfter
+flag-kind Idle flag = refl
+flag-kind Token flag = refl
+flag-kind Null flag = refl
+flag-kind (Reqp t) flag = refl
+flag-kind (Failp t) flag = refl
+flag-kind (Dov t) flag = refl
+flag-kind (Gotp x) flag = refl
+flag-kind (Didv x) flag = refl
+
+-- a sender that hands on what comes: its flag is then whether that belongs to the train
+flag-on : {w f fm : Bool} {p q q₂ : Phase} {ka km : Kind} → One w p ka f q → One w q km fm q₂ → kindFlag ka fm ≡ f
+flag-on passed main = refl
+flag-on last more = refl
+flag-on last head = refl
+flag-on alone main = refl
+flag-on more more = refl
+flag-on more head = refl
+flag-on head main = refl
+flag-on coming main = refl
+flag-on (shade s) coming = refl
+flag-on (shade s) (shade t) = refl
+
+-- the train flag of a junction past which c goes, of the kind of the car that came: an inner junction's is whether c belongs to the train
+pub train-by : (w : Bool) {f fm flag : Bool} {p q q₂ : Phase} {ka km : Kind} (c : Car) → kind c ≡ ka → One w p ka f q → One w q km fm q₂
+    → flag ≡ (w && fm) → trainAfter w c flag flag ≡ (w && f)
+unfolding trainAfter
+train-by true {fm = fm} {ka = ka} c like one main flag =
+    ap (flagAfter c) flag ∙ flag-kind c fm ∙ ap (λ (z : Kind). kindFlag z fm) like ∙ flag-on one main
+train-by false c like one main flag = flag
+
+-- where the train is passing a junction outside a tour, the junction fails a reqp for every lock of its word, an inner one too
+pub real-word : (w : Bool) (fm : Bool) {q q₂ : Phase} {km : Kind} (j : Junction) → q ≡ inside → One w q km fm q₂ → j .train ≡ (w && fm)
+    → failing w j ≡ j .word
+unfolding failing
+real-word w fm {q₂ = q₂} {km = km} j e main train =
+    ap (λ (b : Bool). cond (w && not b) 0 (j .word)) (train ∙ ap (λ (b : Bool). w && b) (on (subst (λ (z : Phase). One w z km fm q₂) e main))) ∙ go w
+  where
+    on : {w f : Bool} {q₂ : Phase} {km : Kind} → One w inside km f q₂ → f ≡ true
+    on more = refl
+    on head = refl
+
+    go : (w : Bool) → cond (w && not (w && true)) 0 (j .word) ≡ j .word
+    go true = refl
+    go false = refl
+
+-- where the token begins a tour, idle goes on: the junction's train flag is then clear
+pub begin-train : (w fm : Bool) {flag : Bool} → flag ≡ (w && fm) → trainAfter w Idle flag flag ≡ false
+unfolding trainAfter flagAfter
+begin-train true fm train = refl
+begin-train false fm train = train
 
 module _ {m n : ℕ} {w f fm : Bool} {lo hi k : ℕ} {p′ p q q₂ : Phase} {A : ℕ → Node} {a : Car} {j : Junction} {s r : Line} (G : List Cell) {H F B : List Cell}
     (rel : Rel p′ p (kind a)) (one : One w p (kind a) f q) (inner : Fit true k (k + size s) before k s before H) (calm : q ≡ inside → NoWait s)

@@ -2,16 +2,17 @@
 -- begins a tour; then the subring makes its step, off the train. The line after the step fits, and the invariant holds of its train.
 use Prim.Native.Nat.{ℕ, _+_, _≤_, _<_}
 use mathlib.Core.Path.{_≡_, refl, sym, ap, _∙_, subst}
-use mathlib.Core.Bool.{Bool, true, false, true≢false}
+use mathlib.Core.Bool.{Bool, true, false, _&&_, true≢false}
 use mathlib.Core.Logic.{_⊎_, inl, inr, ⊎-elim}
 use mathlib.Core.List.{List, [], _∷_, _++_, append-assoc, append-nil}
 use native.Mathlib.Omega.{arith}
+use Rattle.words.specs.Words.{has}
 use Rattle.cars.specs.declared.Car.{Car}
 use Rattle.cars.specs.declared.Car.the-variants.{Idle, Token, Failp}
 use Rattle.usernode.specs.declared.Node.{Node}
 use Rattle.usernode.specs.declared.Activity.{Activity}
 use Rattle.junction.specs.declared.Junction.{Junction}
-use Rattle.junction.specs.Turn.{shadow, joins}
+use Rattle.junction.specs.Turn.{shadow, joins, trainAfter}
 use Rattle.onelock.proofs.Train.Cells.{Cell, cell, gate, All, asks, request}
 use Rattle.onelock.proofs.Train.CellLaws.{all-join, gates-map}
 use Rattle.onelock.proofs.Train.Invariant.{Inv}
@@ -28,6 +29,7 @@ use Rattle.onelock.proofs.Step.Setting.{three, Setting, Moved, in-subri
 use Rattle.onelock.proofs.Step.Calm.{calm-step, wanting-calm}
 use Rattle.onelock.proofs.Step.Bypass.{Passing, goes-by, fails-by, begins, Side, by-goes, by-fails, past-move, passing}
 use Rattle.onelock.proofs.Step.Past.{Stands, st-shadow, st-gap, st-live, stands, shadow-asks, shadow-one, past-rest, past-list, outer}
+use Rattle.onelock.proofs.Step.Past.{train-by, real-word, begin-train}
 use Rattle.onelock.proofs.Step.Junction.{gatesAnd, Closed, nodesThen, cellsThen, inv-then, ahead-then, closing, joined}
 
 -- where a place comes to be inside the train, it was so, or the token came
@@ -60,7 +62,7 @@ module _ {m n : ℕ} {w f fm : Bool} {lo hi k e : ℕ} {p′ p q q₂ o : Phase}
 
   -- the subring after its step
   abbrev s₁ : Line
-  s₁ = stepLine m k (j .subring) s
+  s₁ = stepLine m true k (j .subring) s
 
   -- the nodes, when the rest has made its step
   abbrev A₁ : ℕ → Node
@@ -90,7 +92,7 @@ module _ {m n : ℕ} {w f fm : Bool} {lo hi k e : ℕ} {p′ p q q₂ o : Phase}
       }
 
   -- the car past the junction, however it stands
-  by-front : (c : Car) → kind c ≡ kind a → (Inv n (R .rear) (X ++ (door ∷ (H ++ (cell k a ∷ B)))) A₁ → Goes n A₁ k a h c)
+  by-front : (c : Car) → kind c ≡ kind a → ((kind a ≡ car → q ≡ inside) → Inv n (R .rear) (X ++ (door ∷ (H ++ (cell k a ∷ B)))) A₁ → Goes n A₁ k a h c)
       → Inv n (R .rear) (X ++ (cells p′ h c ++ (door ∷ (H ++ B)))) A₁
   by-front c like go = by (stands rel one)
     where
@@ -106,7 +108,7 @@ module _ {m n : ℕ} {w f fm : Bool} {lo hi k e : ℕ} {p′ p q q₂ o : Phase}
       by (st-gap g) = both {C = []} {D = []} (gap-cells p k a g) (gap-cells p′ h c (like ∙ g)) (λ i. i)
       by (st-live b d g t) =
           both {C = cell k a ∷ []} {D = cell h c ∷ []} (live-cell p k a d g) (live-cell p′ h c b (λ z. g (sym like ∙ z)))
-          (λ i. past-move (j .word) X side a i outside c (go i))
+          (λ i. past-move (j .word) X side a i outside c (go t i))
 
   -- the cells before the subring, C being those of the junction's main car
   abbrev aheadOf : List Cell → List Cell
@@ -120,7 +122,7 @@ module _ {m n : ℕ} {w f fm : Bool} {lo hi k e : ℕ} {p′ p q q₂ o : Phase}
   subring : (X₂ D : List Cell) → Clean k h before (j .subring) → All (λ place c. h ≤ place) X₂ → Places k k D
       → Setting m n k h before k (j .subring) s X₂ (D ++ B) A₁
   subring X₂ D clean there places =
-      in-subring X₂ D clean there places (λ e. absurd (true≢false (cc))) (λ i low. view-low A h (stepLine m h (j .main) r) i low) x
+      in-subring X₂ D clean there places (λ e. absurd (true≢false (cc))) (λ i low. view-low A h (stepLine m w h (j .main) r) i low) x
 
   -- the subring's step, off the train
   abbrev Subring : List Cell → List Cell → Type 0
@@ -163,15 +165,15 @@ module _ {m n : ℕ} {w f fm : Bool} {lo hi k e : ℕ} {p′ p q q₂ o : Phase}
 
   -- a car or nothing goes past the junction
   closed-by : (c : Car) → kind c ≡ kind a → ((act : Activity) (i : ℕ) → request c ≡ asks act i → request a ≡ asks act i) → j .tour ≡ false
-      → j .train ≡ false → Clean k h before (j .subring) → (kind a ≡ token → wanting s ≡ false)
-      → (Inv n (R .rear) (X ++ (door ∷ (H ++ (cell k a ∷ B)))) A₁ → Goes n A₁ k a h c) → Steps
-      → Closed m n w lo hi p′ q k j (joins c (shadow a) (j .train) (j .tour) (j .word)) s r (R .phase) F B e A
+      → j .train ≡ (w && fm) → Clean k h before (j .subring) → (kind a ≡ token → wanting s ≡ false)
+      → ((kind a ≡ car → q ≡ inside) → Inv n (R .rear) (X ++ (door ∷ (H ++ (cell k a ∷ B)))) A₁ → Goes n A₁ k a h c) → Steps
+      → Closed m n w lo hi p′ q k j (joins c (shadow a) (trainAfter w c (j .train) (j .train)) (j .tour) (j .word)) s r (R .phase) F B e A
   unfolding joins
   closed-by c like asked tour train clean quiet go step =
       record {
         front = R .front ++ (mainCells ++ (door ∷ S .front));
         rear = S .rear;
-        fit = past-at h (step-end m k (j .subring) s) tour train (shadow-one a)
+        fit = past-at h (step-end m true k (j .subring) s) tour (train-by w c like one main train) (shadow-one a)
             (λ b act i z low high. outside act i (shadow-asks a act i z) low high) (subring-fit (aheadOf mainCells) [] S) (still quiet)
             (subst (λ (z : Kind). One w p′ z f q) (sym like) (carry rel one)) (clean-by c like asked) (R .fit);
         grew = grew-by (aheadOf mainCells) [] S;
@@ -188,16 +190,16 @@ module _ {m n : ℕ} {w f fm : Bool} {lo hi k e : ℕ} {p′ p q q₂ o : Phase}
           (subst (λ T. Inv n (R .rear) T A₁) (sym (three X mainCells (door ∷ []) (H ++ B))) (by-front c like go))
 
   -- the token begins a tour
-  closed-begin : a ≡ Token → j .train ≡ false → Clean k h before (j .subring) → Steps
-      → Closed m n w lo hi p′ q k j (joins Idle Token (j .train) true (j .word)) s r (R .phase) F B e A
+  closed-begin : a ≡ Token → j .train ≡ (w && fm) → Clean k h before (j .subring) → Steps
+      → Closed m n w lo hi p′ q k j (joins Idle Token (trainAfter w Idle (j .train) (j .train)) true (j .word)) s r (R .phase) F B e A
   unfolding joins
   closed-begin is train clean step =
       record {
         front = R .front ++ (door ∷ (S .front ++ cells p′ k Token));
         rear = S .rear;
-        fit = tour-at h (step-end m k (j .subring) s) refl (token-live .0) (token-live .1) (subring-fit (aheadOf []) D S)
-            (λ b. absurd (true≢false (cc))) (subst (λ (z : Bool). One false before gap z before) (sym train) coming)
-            (subst (λ (z : Phase). Fit w lo hi z h (stepLine m h (j .main) r) (R .phase) (R .front)) (token-live .2) (R .fit));
+        fit = tour-at h (step-end m true k (j .subring) s) refl (token-live .0) (token-live .1) (subring-fit (aheadOf []) D S)
+            (λ b. absurd (true≢false (cc))) (subst (λ (z : Bool). One false before gap z before) (sym clear) coming)
+            (subst (λ (z : Phase). Fit w lo hi z h (stepLine m w h (j .main) r) (R .phase) (R .front)) (token-live .2) (R .fit));
         grew = grew-by (aheadOf []) D S;
         inv = closing k j s R (S .rear) (j .word) B [] (S .front) D (S .front ++ cells p′ k Token)
             (ap (λ (T : List Cell). S .front ++ T) (rel-cells k a rel ∙ ap (cells p′ k) is)) (subring-inv [] D S);
@@ -214,14 +216,19 @@ module _ {m n : ℕ} {w f fm : Bool} {lo hi k e : ℕ} {p′ p q q₂ o : Phase}
       token-live : Come p′ × (One false p′ token true before) × (q ≡ before)
       token-live = token-one (subst (λ (c : Car). Rel p′ p (kind c)) is rel) (subst (λ (c : Car). One w p (kind c) f q) is one)
 
+      clear : trainAfter w Idle (j .train) (j .train) ≡ false
+      clear = begin-train w fm train
+
   -- the junction's turn, whatever comes
-  pub past-done : {j′ : Junction} → Passing j (wanting s) a j′ → j .tour ≡ false → j .train ≡ false → Clean k h before (j .subring) → Steps
+  pub past-done : {j′ : Junction} → Passing w j (wanting s) a j′ → j .tour ≡ false → j .train ≡ (w && fm) → Clean k h before (j .subring) → Steps
       → Closed m n w lo hi p′ q k j j′ s r (R .phase) F B e A
   past-done (goes-by quiet free) tour train clean step =
-      closed-by a refl (λ act i z. z) tour train clean quiet (λ i. by-goes (j .word) X side a i outside free) step
+      closed-by a refl (λ act i z. z) tour train clean quiet
+      (λ come i. by-goes (j .word) X side a i outside
+      (λ t is. ap (λ (z : ℕ). has z (t .lock)) (sym (real-word w fm j (come (ap kind is)) main train)) ∙ free t is)) step
   past-done (fails-by t is) tour train clean step =
       closed-by (Failp t) (sym (ap kind is)) (λ act i z. ap request is ∙ z) tour train clean (λ z. absurd (no-token (sym (ap kind is) ∙ z)))
-      (λ i. by-fails (j .word) X side a i outside t is) step
+      (λ come i. by-fails (j .word) X side a i outside t is) step
     where
       no-token : car ≡ token → ⊥
       no-token z = true≢false (cc)
@@ -245,7 +252,7 @@ module _ {m n : ℕ} {w f fm : Bool} {lo hi k : ℕ} {p′ p q q₂ : Phase} {A 
       (subst (λ T. Inv n e T A) (sym (append-assoc F whole (cells p k a ++ B))) i)
 
   -- the line's step, by that of the rest and then that of the subring
-  pub past-moved : {e : ℕ} {o : Phase} → j .tour ≡ false → j .train ≡ false → Clean k (k + size s) before (j .subring) → Clean lo hi q (j .main)
+  pub past-moved : {e : ℕ} {o : Phase} → j .tour ≡ false → j .train ≡ (w && fm) → Clean k (k + size s) before (j .subring) → Clean lo hi q (j .main)
       → (i : Inv n e (F ++ (whole ++ (cells p k a ++ B))) A)
       → (Setting m n lo hi q (k + size s) (j .main) r F Y A → Inv n e (F ++ (G ++ (cells q (k + size s) (j .main) ++ Y))) A
       → Moved m n w lo hi q q₂ (k + size s) (j .main) r o F Y e A)
@@ -255,5 +262,5 @@ module _ {m n : ℕ} {w f fm : Bool} {lo hi k : ℕ} {p′ p q q₂ : Phase} {A 
       let R = step-rest (past-rest G rel one inner calm main x clean)
       (subst (λ T. Inv n e T A) (past-list G rel one inner calm main x) i) in
       joined (R .phase) (R .last) (R .clean)
-      (past-done rel one inner calm main x (outside i) R (passing j (out (j .subring) s) k (k + size s) (wanting s) a tour)
+      (past-done rel one inner calm main x (outside i) R (passing w j (out (j .subring) s) k (k + size s) (wanting s) a tour)
       tour train clean-sub (step-sub R))

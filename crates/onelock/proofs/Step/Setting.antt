@@ -45,11 +45,11 @@ module _ (m n : ℕ) where
     pub flag : Bool
     pub front : List Cell
     pub rear : ℕ
-    pub fit : Fit w lo hi p′ k (stepLine m k a l) phase front
+    pub fit : Fit w lo hi p′ k (stepLine m w k a l) phase front
     pub last : One w phase (kind (out a l)) flag o
     pub clean : Clean lo hi phase (out a l)
     pub grew : (rear ≡ e) ⊎ (q ≡ after)
-    pub inv : Inv n rear (F ++ (cells phase (k + size l) (out a l) ++ (front ++ B))) (view k (stepLine m k a l) A)
+    pub inv : Inv n rear (F ++ (cells phase (k + size l) (out a l) ++ (front ++ B))) (view k (stepLine m w k a l) A)
 
 -- where the train has passed a line, neither the car that comes to it nor what is behind that is on the train
 pub next-bare : {w f : Bool} {p q : Phase} (k : ℕ) (a : Car) (B : List Cell) → One w p (kind a) f q → (p ≡ after → Bare B)

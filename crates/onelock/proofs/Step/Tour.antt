@@ -1,18 +1,19 @@
 -- A junction in a tour: what its turn is by the car that comes out of its subring, and how that car stands in the train.
 use Prim.Native.Nat.{ℕ, _<_}
-use mathlib.Core.Path.{_≡_, refl, sym, ap, _∙_, subst}
+use mathlib.Core.Path.{_≡_, refl, sym, ap, _∙_}
 use mathlib.Core.Bool.{Bool, true, false, cond, not, _&&_, _||_, true≢false}
 use mathlib.Core.Logic.{inl, inr}
 use lib.Dec.{eqb}
 use Rattle.words.specs.Words.{has, withLock, withoutLock}
 use Rattle.words.proofs.Sets.{has-with, has-without}
+use Rattle.cars.specs.Cars.{flagAfter}
 use Rattle.cars.specs.declared.Notice.{Notice}
 use Rattle.cars.specs.declared.Car.{Car}
 use Rattle.cars.specs.declared.Car.the-variants.{Idle, Token, Null, Reqp, Failp, Dov, Gotp, Didv}
 use Rattle.junction.specs.declared.Junction.{Junction}
 use Rattle.tours.specs.declared.JunctionRule.the-variants.{CarOut, SetsBit, ClearsBit}
 use Rattle.tours.specs.Rules.{within, outside, ifTrain, onGotp, onDidv, inTour}
-use Rattle.junction.specs.Turn.{junctionRule, joins, junctionApply, junctionTurn}
+use Rattle.junction.specs.Turn.{failing, junctionRule, joins, junctionApply, trainAfter, trained, junctionTurn}
 use Rattle.onelock.proofs.Train.Cells.{bit}
 use Rattle.onelock.proofs.Line.Phases.{Phase, before, after, Kind, token, gap, car, kind, One, passed, last, alone, more, head, coming, shade, Come}
 use Rattle.onelock.proofs.Line.Phases.{come-after, come-inside}
@@ -39,17 +40,28 @@ leaves coming (shade s) t = absurd (true≢false (sym s))
 leaves (shade s) coming t = nothing refl refl refl (λ b. true≢false (cc))
 leaves (shade s) (shade r) t = absurd (true≢false (sym r))
 
-module _ (j : Junction) (lo hi : ℕ) (wants : Bool) (a : Car) (tour : j .tour ≡ true) where
+-- where a sentence leaves the train flag as the car sent would have it, an inner junction's flag is as the sentence leaves it too
+trained-same : (w old : Bool) (j : Junction) → flagAfter (j .main) old ≡ j .train → trained w old j ≡ j
+unfolding trained trainAfter joins
+trained-same true old j e = ap (λ (b : Bool). joins (j .main) (j .subring) b (j .tour) (j .word)) e
+trained-same false old j e = refl
+
+module _ (w : Bool) (j : Junction) (lo hi : ℕ) (wants : Bool) (a : Car) (tour : j .tour ≡ true) where
   -- in a tour the car from the subring decides
-  in-tour : (y : Car) → junctionTurn lo hi wants a y j ≡ junctionApply a y j (inTour (j .train) lo hi y)
+  in-tour : (y : Car) → junctionTurn w lo hi wants a y j ≡ trained w (j .train) (junctionApply a y j (inTour (j .train) lo hi y))
   unfolding junctionTurn junctionRule
-  in-tour y = ap (λ (b : Bool). junctionApply a y j (cond b (inTour (j .train) lo hi y) (outside (j .word) wants a))) tour
+  in-tour y = ap (λ (b : Bool). trained w (j .train) (junctionApply a y j (cond b (inTour (j .train) lo hi y) (outside (failing w j) wants a)))) tour
+
+  -- so by a junction that the sentence gives, where it leaves the train flag as the car sent would have it
+  gives : (y : Car) (next : Junction) → junctionApply a y j (inTour (j .train) lo hi y) ≡ next → flagAfter (next .main) (j .train) ≡ next .train
+      → junctionTurn w lo hi wants a y j ≡ next
+  gives y next e flag = in-tour y ∙ ap (trained w (j .train)) e ∙ trained-same w (j .train) next flag
 
   -- the token comes out
-  pub turn-token : (y : Car) → kind y ≡ token → junctionTurn lo hi wants a y j ≡ joins Token a true (j .tour) (j .word)
-  unfolding junctionApply inTour
+  pub turn-token : (y : Car) → kind y ≡ token → junctionTurn w lo hi wants a y j ≡ joins Token a true (j .tour) (j .word)
+  unfolding junctionApply inTour joins flagAfter
   turn-token Idle e = cc
-  turn-token Token e = in-tour Token
+  turn-token Token e = gives Token _ refl refl
   turn-token Null e = cc
   turn-token (Reqp t) e = cc
   turn-token (Failp t) e = cc
@@ -58,9 +70,9 @@ module _ (j : Junction) (lo hi : ℕ) (wants : Bool) (a : Car) (tour : j .tour �
   turn-token (Didv x) e = cc
 
   -- with its train flag clear the junction drops what is not the token
-  pub turn-none : (y : Car) → j .train ≡ false → (kind y ≡ token → ⊥) → junctionTurn lo hi wants a y j ≡ joins Idle a (j .train) (j .tour) (j .word)
-  unfolding junctionApply inTour ifTrain
-  turn-none y train real = in-tour y ∙ ap (λ (b : Bool). junctionApply a y j (inTour b lo hi y)) train ∙ go y real
+  pub turn-none : (y : Car) → j .train ≡ false → (kind y ≡ token → ⊥) → junctionTurn w lo hi wants a y j ≡ joins Idle a (j .train) (j .tour) (j .word)
+  unfolding junctionApply inTour ifTrain joins flagAfter
+  turn-none y train real = gives y _ (ap (λ (b : Bool). junctionApply a y j (inTour b lo hi y)) train ∙ go y real) (sym train)
     where
       go : (y : Car) → (kind y ≡ token → ⊥) → junctionApply a y j (inTour false lo hi y) ≡ joins Idle a (j .train) (j .tour) (j .word)
       go Idle n = refl
@@ -73,9 +85,9 @@ module _ (j : Junction) (lo hi : ℕ) (wants : Bool) (a : Car) (tour : j .tour �
       go (Didv x) n = refl
 
   -- the train has left the subring
-  pub turn-end : (y : Car) → j .train ≡ true → kind y ≡ gap → junctionTurn lo hi wants a y j ≡ joins Idle a false false (j .word)
-  unfolding junctionApply inTour ifTrain
-  turn-end y train e = in-tour y ∙ ap (λ (b : Bool). junctionApply a y j (inTour b lo hi y)) train ∙ go y e
+  pub turn-end : (y : Car) → j .train ≡ true → kind y ≡ gap → junctionTurn w lo hi wants a y j ≡ joins Idle a false false (j .word)
+  unfolding junctionApply inTour ifTrain joins flagAfter
+  turn-end y train e = gives y _ (ap (λ (b : Bool). junctionApply a y j (inTour b lo hi y)) train ∙ go y e) refl
     where
       go : (y : Car) → kind y ≡ gap → junctionApply a y j (inTour true lo hi y) ≡ joins Idle a false false (j .word)
       go Idle e = refl
@@ -137,11 +149,26 @@ module _ (j : Junction) (lo hi : ℕ) (wants : Bool) (a : Car) (tour : j .tour �
   didv-turn x low false e = plain-turn (Didv x) (λ lock. ap (λ (z : Bool). cond (z && eqb lock (x .lock)) false (has (j .word) lock)) (sym e))
 
   -- so it is with every car of the train
-  pub turn-car : (y : Car) → j .train ≡ true → kind y ≡ car → LowNotice y → CarTurn (junctionTurn lo hi wants a y j) y
-  unfolding inTour ifTrain onGotp onDidv
+  pub turn-car : (y : Car) → j .train ≡ true → kind y ≡ car → LowNotice y → CarTurn (junctionTurn w lo hi wants a y j) y
+  unfolding inTour ifTrain onGotp onDidv joins flagAfter
   turn-car y train e low =
-      subst (λ (z : Junction). CarTurn z y) (sym (in-tour y ∙ ap (λ (b : Bool). junctionApply a y j (inTour b lo hi y)) train)) (go y e low)
+      let t = go y e low in
+      record {
+        word = t .word;
+        is = gives y (joins y a (j .train) (j .tour) (t .word)) (ap (λ (b : Bool). junctionApply a y j (inTour b lo hi y)) train ∙ t .is) (kept y e);
+        bits = t .bits;
+      }
     where
+      kept : (y : Car) → kind y ≡ car → flagAfter y (j .train) ≡ j .train
+      kept Idle e = absurd (true≢false (cc))
+      kept Token e = absurd (true≢false (cc))
+      kept Null e = refl
+      kept (Reqp t) e = refl
+      kept (Failp t) e = refl
+      kept (Dov t) e = refl
+      kept (Gotp x) e = refl
+      kept (Didv x) e = refl
+
       go : (y : Car) → kind y ≡ car → LowNotice y → CarTurn (junctionApply a y j (inTour true lo hi y)) y
       go Idle e low = absurd (true≢false (cc))
       go Token e low = absurd (true≢false (cc))

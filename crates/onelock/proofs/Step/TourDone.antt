@@ -22,7 +22,7 @@ use Rattle.onelock.proofs.Line.Phases.{Phase, before, inside, after, Ki
 use Rattle.onelock.proofs.Line.PhaseLaws.{Rel, same, grown-car, grown-token, carry, no-shadow, rel-before, off, car-real, token-real}
 use Rattle.onelock.proofs.Line.Fit.{cells, Fit}
 use Rattle.onelock.proofs.Line.FitLaws.{places-join, places-cells, places-gate, fit-places, Passed, passed-by, Quiet, quiet, gap-cells, gap-clean}
-use Rattle.onelock.proofs.Line.FitLaws.{past-at, tour-at, live-cell, rel-cells, one-clean}
+use Rattle.onelock.proofs.Line.FitLaws.{none-train, past-at, tour-at, live-cell, rel-cells, one-clean}
 use Rattle.onelock.proofs.Node.Rules.{LowNotice}
 use Rattle.onelock.proofs.Step.Setting.{three, Setting, Moved, next-bare, after-junction, in-subring}
 use Rattle.onelock.proofs.Step.Junction.{gatesAnd, Closed, nodesThen, cellsThen, inv-then, ahead-then, closing, joined}
@@ -89,7 +89,7 @@ module _ {m n : ℕ} {w f fs : Bool} {lo hi k : ℕ} {p′ p q p₁ p₂ q₂ : 
 
     -- the subring after its step
     abbrev s₁ : Line
-    s₁ = stepLine m k (j .subring) s
+    s₁ = stepLine m true k (j .subring) s
 
     -- the nodes, when the rest has made its step
     abbrev A₁ : ℕ → Node
@@ -108,7 +108,7 @@ module _ {m n : ℕ} {w f fs : Bool} {lo hi k : ℕ} {p′ p q p₁ p₂ q₂ : 
     tour-subring =
         in-subring X₂ (cells p k a) (λ b. absurd (live b)) (all-join _ X _ (ahead-then k j s R (x .ahead)) tt)
         (places-cells k k p k a (omega arith) (omega arith)) (next-bare k a B one (x .bare))
-        (λ i low. view-low A h (stepLine m h (j .main) r) i low) x
+        (λ i low. view-low A h (stepLine m w h (j .main) r) i low) x
 
     -- the invariant then
     tour-inv : Inv n (R .rear) (X₂ ++ (H ++ (cells q k (j .subring) ++ (cells p k a ++ B)))) A₁
@@ -166,7 +166,7 @@ module _ {m n : ℕ} {w f fs : Bool} {lo hi k : ℕ} {p′ p q p₁ p₂ q₂ : 
           record {
             front = R .front ++ (cells (S .phase) h c ++ (gate k h word ∷ (S .front ++ cells p′ k a)));
             rear = S .rear;
-            fit = tour-at h (step-end m k (j .subring) s) tour (λ b. live (off one (rel-before rel b) .phase)) (no-shadow live (carry rel one))
+            fit = tour-at h (step-end m true k (j .subring) s) tour (λ b. live (off one (rel-before rel b) .phase)) (no-shadow live (carry rel one))
                 (S .fit) out one-c (R .fit);
             grew = grew;
             inv = closing k j s R (S .rear) word B (cells (S .phase) h c) (S .front) (cells p k a) (S .front ++ cells p′ k a)
@@ -181,7 +181,7 @@ module _ {m n : ℕ} {w f fs : Bool} {lo hi k : ℕ} {p′ p q p₁ p₂ q₂ : 
           record {
             front = R .front ++ (cells p′ h Idle ++ (gate k h (j .word) ∷ S .front));
             rear = S .rear;
-            fit = past-at h (step-end m k (j .subring) s) refl refl (subst (λ (z : Kind). One true before z false before) (sym (came .idle)) coming)
+            fit = past-at h (step-end m true k (j .subring) s) refl (none-train w) (subst (λ (z : Kind). One true before z false before) (sym (came .idle)) coming)
                 (gap-clean k h before a (came .idle)) (rest .ahead true) (λ b. absurd (not-inside (sym p′-after ∙ b)))
                 (subst₂ (λ (u v : Phase). One w u gap false v) (sym p′-after) (sym e₂) passed) (gap-clean lo hi p′ Idle refl) (R .fit);
             grew = grew;
@@ -203,25 +203,25 @@ module _ {m n : ℕ} {w f fs : Bool} {lo hi k : ℕ} {p′ p q p₁ p₂ q₂ : 
           not-inside z = true≢false (cc)
 
       -- the junction's turn, whatever comes out of its subring
-      tour-done : Closed m n w lo hi p′ q k j (junctionTurn k h (wanting s) a y j) s r (R .phase) F B e A
+      tour-done : Closed m n w lo hi p′ q k j (junctionTurn w k h (wanting s) a y j) s r (R .phase) F B e A
       tour-done = go (leaves (S .last) main train)
         where
           Done : Junction → Type 0
           Done j′ = Closed m n w lo hi p′ q k j j′ s r (R .phase) F B e A
 
-          go : Leaves (S .phase) (kind y) p₂ (j .train) → Done (junctionTurn k h (wanting s) a y j)
+          go : Leaves (S .phase) (kind y) p₂ (j .train) → Done (junctionTurn w k h (wanting s) a y j)
           go (the-token is come one-t) =
-              subst Done (sym (turn-token j k h (wanting s) a tour y is))
+              subst Done (sym (turn-token w j k h (wanting s) a tour y is))
               (closed-on Token (j .word) true (λ z. refl) one-t
               (subst (λ (c : Car). InvWith (cells (S .phase) h c) (j .word)) (is-token y is)
               (through (j .word) (λ lock. ap (λ (c : Car). bit k h lock c (has (j .word) lock)) (sym (is-token y is))) come (token-real is))))
           go (a-car is flag come one-c) =
-              let t = turn-car j k h (wanting s) a tour y flag is (cars-out LowNotice (j .subring) s (x .cars .0 .0) (x .cars .1)) in
+              let t = turn-car w j k h (wanting s) a tour y flag is (cars-out LowNotice (j .subring) s (x .cars .0 .0) (x .cars .1)) in
               subst Done (sym (t .is))
               (closed-on y (t .word) (j .train) (λ z. flag) (subst₂ (λ (u : Kind) (v : Bool). One false (S .phase) u v p₂) (sym is) (sym flag) one-c)
               (through (t .word) (t .bits) come (car-real is)))
           go (nothing e₁ e₂ flag real) =
-              subst Done (sym (turn-none j k h (wanting s) a tour y flag real))
+              subst Done (sym (turn-none w j k h (wanting s) a tour y flag real))
               (closed-on Idle (j .word) (j .train) (λ z. absurd (not-after (sym e₁ ∙ z)))
               (subst₂ (λ (u v : Phase). One false u gap (j .train) v) (sym e₁) (sym e₂)
               (subst (λ (z : Bool). One false before gap z before) (sym flag) coming))
@@ -229,7 +229,7 @@ module _ {m n : ℕ} {w f fs : Bool} {lo hi k : ℕ} {p′ p q p₁ p₂ q₂ : 
             where
               not-after : before ≡ after → ⊥
               not-after z = true≢false (cc)
-          go (the-end is e₁ e₂ flag) = subst Done (sym (turn-end j k h (wanting s) a tour y flag is)) (closed-end e₁ e₂ is)
+          go (the-end is e₁ e₂ flag) = subst Done (sym (turn-end w j k h (wanting s) a tour y flag is)) (closed-end e₁ e₂ is)
 
   -- the line's step, by that of the rest and then that of the subring
   pub tour-moved : {e : ℕ} {o : Phase} → j .tour ≡ true

@@ -79,7 +79,7 @@ module _ {m n : ℕ} {w f : Bool} {lo hi k e : ℕ} {p′ p q q₂ o : Phase} {A
       new = turn m (suc k) a u .node
 
       A₁ : ℕ → Node
-      A₁ = view (suc k) (stepLine m (suc k) (u .car) r) A
+      A₁ = view (suc k) (stepLine m w (suc k) (u .car) r) A
 
       lastCell : List Cell
       lastCell = cells (rest .phase) (suc k + size r) (out (u .car) r)
@@ -102,7 +102,7 @@ module _ {m n : ℕ} {w f : Bool} {lo hi k e : ℕ} {p′ p q q₂ o : Phase} {A
       place : Place n X B A₁ k u
       place =
           record {
-            is = view-low A (suc k) (stepLine m (suc k) (u .car) r) (suc k) (omega arith) ∙ x .agrees .0;
+            is = view-low A (suc k) (stepLine m w (suc k) (u .car) r) (suc k) (omega arith) ∙ x .agrees .0;
             small = x .small .0;
             top = omega (arith, x .top);
             ahead = all-join _ F _ (all-map F (λ place c l. omega arith) (x .ahead))
@@ -117,7 +117,7 @@ module _ {m n : ℕ} {w f : Bool} {lo hi k e : ℕ} {p′ p q q₂ o : Phase} {A
           ⊎-elim (λ multi. inl multi)
           (λ z. inr (
             gates-join _ F _ (z .1) (gates-join _ lastCell _ (cells-gates _ (rest .phase) (suc k + size r) (out (u .car) r))
-                (fit-gateless (step-users m (suc k) (u .car) r (z .0)) (rest .fit))),
+                (fit-gateless (step-users m w (suc k) (u .car) r (z .0)) (rest .fit))),
             z .2,
           ))
           (x .mode)

@@ -19,7 +19,7 @@ use Rattle.onelock.proofs.Line.Ring.{Line, end, user, junction, size}
 use Rattle.onelock.proofs.Line.Numbers.{Users, Agrees, Parts}
 use Rattle.onelock.proofs.Line.Phases.{before, alone, coming}
 use Rattle.onelock.proofs.Line.Fit.{Fit, f-end, f-user, f-past}
-use Rattle.onelock.proofs.Line.FitLaws.{gap-clean}
+use Rattle.onelock.proofs.Line.FitLaws.{none-train, gap-clean}
 use Rattle.onelock.proofs.Whole.Step.{Whole}
 use Rattle.onelock.proofs.Whole.Zero.{token-out}
 
@@ -90,7 +90,7 @@ still k (junction j s r) x =
     subst (λ i. Still k (junction i s r)) (sym (x .0))
     (record {
       front = on .front ++ (gate k (k + size s) 0 ∷ sub .front);
-      fit = λ w lo hi. f-past refl refl coming (gap-clean k (k + size s) before (restJunction .subring) refl) (sub .fit true k (k + size s))
+      fit = λ w lo hi. f-past refl (none-train w) coming (gap-clean k (k + size s) before (restJunction .subring) refl) (sub .fit true k (k + size s))
           (λ e. absurd (true≢false (cc))) coming (gap-clean lo hi before (restJunction .main) refl) (on .fit w lo hi);
       bare = all-join (λ p c. ⊥) (on .front) _ (on .bare) (sub .bare);
       words =

@@ -123,7 +123,7 @@ module _ (m n : ℕ) where
 
   -- the line's step
   came : (z : Car) (queue : List Car) (l : Line) → Nodes Small l → Cars LowNotice l → (x : Whole z queue l)
-      → Came (x .tail) (x .rest) (out z l) (stepLine m 0 z l)
+      → Came (x .tail) (x .rest) (out z l) (stepLine m false 0 z l)
   came z queue l small cars x =
       record {
         asking = x .asking;
@@ -136,16 +136,16 @@ module _ (m n : ℕ) where
         fit = v .fit;
         ring = record {
           nodes = new;
-          agrees = view-agrees (x .ring .nodes) 0 (stepLine m 0 z l);
-          total = step-size m 0 z l ∙ x .ring .total;
-          mode = ⊎-elim (λ e. inl e) (λ u. inr (step-users m 0 z l u)) (x .ring .mode);
+          agrees = view-agrees (x .ring .nodes) 0 (stepLine m false 0 z l);
+          total = step-size m false 0 z l ∙ x .ring .total;
+          mode = ⊎-elim (λ e. inl e) (λ u. inr (step-users m false 0 z l u)) (x .ring .mode);
         };
         rear = v .rear;
         inv = subst (λ k. Inv n (v .rear) (at n (x .rest) ++ (cells (v .phase) k (out z l) ++ (v .front ++ at 0 (x .tail)))) new) whole (v .inv);
       }
     where
       new : ℕ → Node
-      new = view 0 (stepLine m 0 z l) (x .ring .nodes)
+      new = view 0 (stepLine m false 0 z l) (x .ring .nodes)
 
       whole : 0 + size l ≡ n
       whole = omega (arith, x .ring .total)
@@ -278,7 +278,7 @@ module _ (m n : ℕ) where
 
   -- one step of the whole ring
   pub whole-step : (z : Car) (queue : List Car) (l : Line) → Nodes Small l → Cars LowNotice l → Whole z queue l
-      → Whole (sentBy queue (out z l)) (queueAfter queue (out z l)) (stepLine m 0 z l)
+      → Whole (sentBy queue (out z l)) (queueAfter queue (out z l)) (stepLine m false 0 z l)
   whole-step z queue l small cars x =
-      subst (λ q. Whole (sentBy q (out z l)) (queueAfter q (out z l)) (stepLine m 0 z l)) (sym (x .split))
-      (sends (x .tail) (x .rest) (out z l) (stepLine m 0 z l) (came z queue l small cars x))
+      subst (λ q. Whole (sentBy q (out z l)) (queueAfter q (out z l)) (stepLine m false 0 z l)) (sym (x .split))
+      (sends (x .tail) (x .rest) (out z l) (stepLine m false 0 z l) (came z queue l small cars x))

@@ -12,18 +12,13 @@ use Rattle.junction.specs.declared.Junction.{Junction}
 use Rattle.onelock.proofs.Train.Cells.{Cell, gate, All, noticed, at}
 use Rattle.onelock.proofs.Train.Invariant.{Ok, Some, Exact, Words}
 use Rattle.onelock.proofs.Train.CellLaws.{all-right, all-join, all-map, all-both, all-bare, words-right, all-split, fold-far, at-all}
-use Rattle.onelock.proofs.Line.Ring.{Line, end, user, junction, size}
+use Rattle.onelock.proofs.Line.Ring.{Line, size}
+use Rattle.onelock.proofs.Line.Numbers.{Junctions}
 use Rattle.onelock.proofs.Line.Phases.{Phase}
 use Rattle.onelock.proofs.Line.Fit.{cells, Fit, f-end, f-user, f-past, f-tour}
 use Rattle.onelock.proofs.Line.FitLaws.{cells-all, shaded, fit-places}
 use Rattle.onelock.proofs.Whole.Zero.{startPhase}
 use Rattle.onelock.proofs.Whole.Step.{Whole}
-
--- what holds of each junction of a line, the number before its nodes, and its subring
-abbrev pub Junctions : (ℕ → Junction → Line → Type 0) → ℕ → Line → Type 0
-Junctions P k end = Unit
-Junctions P k (user u r) = Junctions P (suc k) r
-Junctions P k (junction j s r) = P k j s × Junctions P k s × Junctions P (k + size s) r
 
 -- a junction outside a tour has exactly the locks that its nodes have
 pub record TrueWord (A : ℕ → Node) (k : ℕ) (j : Junction) (s : Line) : Type 0 where

@@ -17,7 +17,7 @@ use Rattle.tours.specs.declared.JunctionRule.{JunctionRule}
 use Rattle.tours.specs.declared.JunctionRule.the-variants.{GoesOn, FailsReqp, Begins, Drops, TokenOut, CarOut, SetsBit, ClearsBit, Ends}
 use Rattle.tours.specs.Rules.{within, outside, ifTrain, onGotp, onDidv, inTour}
 use Rattle.junction.specs.declared.Junction.{Junction}
-use Rattle.junction.specs.Turn.{junctionRule, shadow, joins, junctionApply, junctionTurn}
+use Rattle.junction.specs.Turn.{failing, junctionRule, shadow, joins, junctionApply, trained, junctionTurn}
 use Rattle.junction.specs.Sound.{junctionSound}
 use Rattle.ring.proofs.Sound.Node.{names-lock}
 
@@ -122,10 +122,10 @@ module _ (rules nodes locks : ℕ) where
       (and-left main subring two, and-right main subring two, ltb-true _ _ (and-right (main && subring) (allBelow (j .word) locks) e))
 
   -- a junction that passes still passes after its turn
-  pub junction-sound : (low high : ℕ) (wants : Bool) (arrival out : Car) (j : Junction) → carNames rules nodes locks arrival ≡ true
+  pub junction-sound : (inner : Bool) (low high : ℕ) (wants : Bool) (arrival out : Car) (j : Junction) → carNames rules nodes locks arrival ≡ true
       → carNames rules nodes locks out ≡ true → junctionSound rules nodes locks j ≡ true
-      → junctionSound rules nodes locks (junctionTurn low high wants arrival out j) ≡ true
-  unfolding junctionTurn junctionRule
-  junction-sound low high wants arrival out j a o e =
-      junction-applied arrival out j (junctionRule low high wants arrival out j) a o (junction-in-plan j e .2)
-      (by-test Named (j .tour) (λ t. tour-names (j .train) low high out o) (λ t. outside-names (j .word) wants arrival a))
+      → junctionSound rules nodes locks (junctionTurn inner low high wants arrival out j) ≡ true
+  unfolding junctionTurn junctionRule trained joins junctionSound
+  junction-sound inner low high wants arrival out j a o e =
+      junction-applied arrival out j (junctionRule inner low high wants arrival out j) a o (junction-in-plan j e .2)
+      (by-test Named (j .tour) (λ t. tour-names (j .train) low high out o) (λ t. outside-names (failing inner j) wants arrival a))

@@ -2,7 +2,7 @@
 -- junctions of the plan count, and only these the walk comes to.
 use Prim.Native.Nat.{ℕ, zero, suc, _+_, _≤_, _<_}
 use mathlib.Core.Path.{_≡_, refl, sym, ap, subst, subst₂}
-use mathlib.Core.Bool.{true}
+use mathlib.Core.Bool.{true, false}
 use native.Mathlib.Omega.{arith}
 use lib.Dec.{eqb}
 use lib.ListN.{getD, replicate}
@@ -116,7 +116,7 @@ module _ (s : State) (e : sound s ≡ true) where
   unfolding outOfSubring junctionHere
   walks-out n m j size before inside l h i =
       let here = junction-passes s e (before .turned) (omega (arith, h .turned)) in
-      let after = junction-sound rules nodes locks (before .passed) (before .passed + size) (wanted s (before .passed) size) (before .last) (inside .last)
+      let after = junction-sound rules nodes locks false (before .passed) (before .passed + size) (wanted s (before .passed) size) (before .last) (inside .last)
       (junctionHere s before) (h .last) (i .last) here in
       record {
         passed = i .passed;

@@ -10,9 +10,12 @@ rule-requires c κs = search needs
 apply-requires : tie.Need-apply-requires
 apply-requires c κs = search needs
 
+trained-requires : tie.Need-trained-requires
+trained-requires c κs = search needs
+
 returns : tie.Need-returns
 unfolding junctionTurn
-returns c = simp (c .apply .ensures, c .before .rule .ensures .0)
+returns c = simp (c .trained .ensures, c .before .apply .ensures, c .before .before .rule .ensures .0)
 
 pub turn-spec : {M : Type 1} → statement M
-turn-spec = tie.close (tie.spec rule-requires apply-requires returns)
+turn-spec = tie.close (tie.spec rule-requires apply-requires trained-requires returns)

@@ -1,8 +1,8 @@
--- `turns::deeds::flag_after` meets its contract. On each way to a return, the tests and calls on the way choose the case of the definition.
-use Rattle.turns.specs.Turn.{flagAfter}
+-- `cars::flag_after` meets its contract. On each way to a return, the tests and calls on the way choose the case of the definition.
+use Rattle.cars.specs.Cars.{flagAfter}
 use borrow.Author.Needs.{needs}
-use Rattle.turns.proofs.deeds.flag_after.Statement.{statement}
-use Rattle.turns.proofs.deeds.flag_after.Tie as tie
+use Rattle.cars.proofs.flag_after.Statement.{statement}
+use Rattle.cars.proofs.flag_after.Tie as tie
 
 enum-told : tie.Need-enum-told
 enum-told c = search needs

@@ -1,0 +1,14 @@
+pub mod Places
+pub mod InRange
+pub mod Counts
+pub mod Extents
+pub mod Counting
+pub mod Ending
+pub mod Ends
+pub mod Shapes
+pub mod Padded
+pub mod ReadBack
+pub mod NothingElse
+pub mod OldPlans
+pub mod Theorems
+pub mod Examples
