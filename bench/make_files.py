@@ -1,5 +1,5 @@
 #!/usr/bin/env python3
-"""Writes the three night files that bench/measure runs, always the same bytes.
+"""Writes the four night files that bench/measure runs, always the same bytes.
 
     make_files.py FOLDER
 """
@@ -118,12 +118,35 @@ def most_lines():
     return night_file(plan, items)
 
 
+def nested():
+    """The largest plan, 64 nodes and 144 junctions three levels deep in 352 bytes: 1,000,000 steps.
+
+    Each of 16 junctions has 4 on its subring, each of these one more, with one node. One or three actions before each item
+    of steps, as in the file of ring nodes.
+    """
+    plan = bytes([MULTIRING, 4, 16]) + bytes(([5, 4] + [5, 1, 5, 1, 0] * 4) * 16)
+    assert len(plan) == 3 + 352
+    items = []
+    left = CEILING
+    turn = 0
+    while left > 0:
+        items.append(bytes([TAKE, 1 + 4 * turn, turn % 4]))
+        if turn % 4 == 3:
+            items.append(bytes([FORCE, 64 - turn, 0]))
+            items.append(bytes([RELEASE, 4 * turn - 3, (turn - 1) % 4]))
+        count = min(left, 65_535)
+        items.append(steps(count))
+        left -= count
+        turn += 1
+    return night_file(plan, items)
+
+
 def main():
     if len(sys.argv) != 2:
         sys.exit("usage: make_files.py FOLDER")
     folder = sys.argv[1]
     os.makedirs(folder, exist_ok=True)
-    for name, make in (("ring", ring), ("mix", mix), ("lines", most_lines)):
+    for name, make in (("ring", ring), ("mix", mix), ("lines", most_lines), ("nested", nested)):
         with open(os.path.join(folder, name + ".bin"), "wb") as file:
             file.write(make())
 

@@ -1,8 +1,9 @@
 /* The night program in plain C, the yardstick for speed. It reads a night
    file on standard input and writes the run's lines on standard output. Rules
    and names are those of the build paper (01), with busy steps as request 1,
-   rules 3 and 4 as request 4 and H lines as request 13 (02) has them. Refusals
-   13 to 15 are not tested: from the start state they never occur. */
+   rules 3 and 4 as request 4, junctions inside subrings as request 6 (02, and
+   docs/NESTED.md) and H lines as request 13 has them. Refusals 13 to 15 are not
+   tested: from the start state they never occur. */
 
 #include <stdbool.h>
 #include <stdint.h>
@@ -14,7 +15,10 @@ enum {
     FILE_MOST = 65535,
     LOCKS_MOST = 64,
     POSITIONS_MOST = 16,
+    VALUES_MOST = 352,
+    LEVELS_MOST = 3,
     NODES_MOST = 64,
+    JUNCTIONS_MOST = 144,
     QUEUE_MOST = 65,
     LINE_MOST = 60 /* five numbers of at most 10 digits, a letter, spaces, newline */
 };
@@ -47,18 +51,20 @@ struct zero_node {
     int head, count;
 };
 
-/* Rules 1 and 3 are ring rules, 2 and 4 multiring rules; under 1 and 2 a release needs an idle activity. */
+/* Rules 1 and 3 are ring rules, 2 and 4 multiring rules; under 1 and 2 a release needs an idle activity.
+   Junctions are numbered from 0, an outer one before those within it. */
 struct plan {
-    int rules, locks, positions, users;
+    int rules, locks, positions, users, junctions;
     bool multiring, release_needs_idle;
-    int value[POSITIONS_MOST];
+    int value[VALUES_MOST];
+    int within[JUNCTIONS_MOST]; /* the user nodes within each junction */
 };
 
 struct run {
     struct plan plan;
     struct zero_node zero;
     struct node nodes[NODES_MOST + 1]; /* numbered from 1 */
-    struct junction junctions[POSITIONS_MOST]; /* by position */
+    struct junction junctions[JUNCTIONS_MOST];
     int steps;
     int busy[LOCKS_MOST], grants[LOCKS_MOST], fails[LOCKS_MOST];
 };
@@ -226,7 +232,8 @@ static bool wants_train(const struct run *run, int first, int size)
     return false;
 }
 
-static void outside_tour(struct junction *junction, struct car car, bool wanted)
+/* A reqp is rewritten by a junction on the main ring, and by an inner one whose train flag says that the car is on a train. */
+static void outside_tour(struct junction *junction, struct car car, bool wanted, bool inner)
 {
     if (car.kind == TOKEN && wanted) {
         junction->tour = true;
@@ -235,7 +242,7 @@ static void outside_tour(struct junction *junction, struct car car, bool wanted)
         return;
     }
     junction->sub_car = car.kind == TOKEN ? idle_car : car;
-    if (car.kind == REQP && (junction->word & bit(car.lock)))
+    if (car.kind == REQP && (junction->word & bit(car.lock)) && (!inner || junction->train))
         car.kind = FAILP;
     junction->main_car = car;
 }
@@ -258,20 +265,53 @@ static void in_tour(struct junction *junction, struct car car, struct car from_s
         junction->word &= ~bit(from_sub.lock);
 }
 
-static struct car junction_turn(struct run *run, int position, int first, struct car car)
+static void junction_turn(struct junction *junction, int first, int size, bool wanted, bool inner,
+                          struct car car, struct car from_sub)
 {
-    struct junction *junction = &run->junctions[position];
-    int size = run->plan.value[position];
-    struct car main_before = junction->main_car;
-    struct car sub_before = junction->sub_car;
-    struct car from_sub = run->nodes[first + size - 1].car;
     if (junction->tour)
         in_tour(junction, car, from_sub, from_sub.source >= first && from_sub.source < first + size);
     else
-        outside_tour(junction, car, car.kind == TOKEN && wants_train(run, first, size));
-    for (int number = first; number < first + size; number++)
-        sub_before = user_turn(run, number, sub_before);
+        outside_tour(junction, car, wanted, inner);
+    if (inner && junction->main_car.kind == TOKEN)
+        junction->train = true;
+    else if (inner && junction->main_car.kind == IDLE)
+        junction->train = false;
+}
+
+/* Where a step has come to: the next byte of the positions, the next user node and the next junction. */
+struct place {
+    int value, number, junction;
+};
+
+static struct car ring_turn(struct run *run, struct place *at, int count, bool inner, struct car car);
+
+/* A junction with so many user nodes on its subring, or (0) with the list of positions that follows. */
+static struct car subring_turn(struct run *run, struct place *at, int users, bool inner, struct car car)
+{
+    int first = at->number, size = run->plan.within[at->junction];
+    struct junction *junction = &run->junctions[at->junction++];
+    struct car main_before = junction->main_car;
+    struct car from_sub = junction->sub_car;
+    bool wanted = car.kind == TOKEN && !junction->tour && wants_train(run, first, size);
+    if (users == 0)
+        from_sub = ring_turn(run, at, run->plan.value[at->value++], true, from_sub);
+    for (; users > 0; users--)
+        from_sub = user_turn(run, at->number++, from_sub);
+    junction_turn(junction, first, size, wanted, inner, car, from_sub);
     return main_before;
+}
+
+/* So many positions of a ring, the main ring or (inner) a subring. */
+static struct car ring_turn(struct run *run, struct place *at, int count, bool inner, struct car car)
+{
+    for (; count > 0; count--) {
+        int value = run->plan.value[at->value++];
+        if (value == 0)
+            car = user_turn(run, at->number++, car);
+        else
+            car = subring_turn(run, at, value == 5 ? 0 : value, inner, car);
+    }
+    return car;
 }
 
 static void zero_turn(struct zero_node *zero, struct car car)
@@ -299,19 +339,9 @@ static uint64_t all_had(const struct run *run)
 
 static void step(struct run *run)
 {
-    struct car car = run->zero.car;
-    int number = 1;
+    struct place start = {0, 1, 0};
     run->steps++;
-    for (int position = 0; position < run->plan.positions; position++) {
-        if (run->plan.value[position] == 0) {
-            car = user_turn(run, number, car);
-            number++;
-        } else {
-            car = junction_turn(run, position, number, car);
-            number += run->plan.value[position];
-        }
-    }
-    zero_turn(&run->zero, car);
+    zero_turn(&run->zero, ring_turn(run, &start, run->plan.positions, false, run->zero.car));
     for (uint64_t had = all_had(run); had != 0; had &= had - 1)
         run->busy[lowest(had)]++;
 }
@@ -365,13 +395,52 @@ static bool contents_right(const uint8_t *file, int length)
         && FILE_LEAST + plan_length + schedule_length == length;
 }
 
-/* Reads the plan; false where a value is outside its range. */
+/* Whether the bytes of the positions end exactly where the positions do, whatever their values are. */
+static bool ends_exactly(const uint8_t *bytes, int length, int positions)
+{
+    int place = 0;
+    for (; positions > 0 && place < length; positions--)
+        if (bytes[place++] == 5) {
+            if (place == length)
+                return false;
+            positions += bytes[place++];
+        }
+    return positions == 0 && place == length;
+}
+
+/* Reads so many positions, from a byte on; the byte behind them, or -1 where a value is outside its range. */
+static int read_positions(struct plan *plan, const uint8_t *bytes, int place, int count, int levels)
+{
+    for (; count > 0; count--) {
+        int value = bytes[place++];
+        if (value == 0) {
+            plan->users++;
+            continue;
+        }
+        if (value > 5 || levels == 0 || !plan->multiring || plan->junctions == JUNCTIONS_MOST)
+            return -1;
+        int before = plan->users, junction = plan->junctions++;
+        if (value < 5) {
+            plan->users += value;
+        } else {
+            int listed = bytes[place++];
+            if (listed < 1 || listed > 4)
+                return -1;
+            place = read_positions(plan, bytes, place, listed, levels - 1);
+            if (place < 0)
+                return -1;
+        }
+        plan->within[junction] = plan->users - before;
+    }
+    return place;
+}
+
+/* Reads a plan whose bytes end with its positions; false where a value is outside its range. */
 static bool read_plan(struct plan *plan, const uint8_t *body)
 {
     plan->rules = body[0];
     plan->locks = body[1];
     plan->positions = body[2];
-    plan->users = 0;
     if (plan->rules < 1 || plan->rules > 4)
         return false;
     plan->multiring = plan->rules % 2 == 0;
@@ -380,13 +449,11 @@ static bool read_plan(struct plan *plan, const uint8_t *body)
         return false;
     if (plan->positions < 1 || plan->positions > POSITIONS_MOST)
         return false;
-    for (int position = 0; position < plan->positions; position++) {
-        int value = body[3 + position];
-        if (value > (plan->multiring ? 4 : 0))
-            return false;
-        plan->value[position] = value;
-        plan->users += value == 0 ? 1 : value;
-    }
+    int end = read_positions(plan, body + 3, 0, plan->positions, LEVELS_MOST);
+    if (end < 0 || plan->users > NODES_MOST)
+        return false;
+    for (int place = 0; place < end; place++)
+        plan->value[place] = body[3 + place];
     return true;
 }
 
@@ -399,7 +466,7 @@ static int read_file(struct plan *plan, const uint8_t *file, int length, int *ba
         return 2;
     const uint8_t *body = file + FILE_LEAST;
     int plan_length = pair(file + 4), schedule_length = pair(file + 9);
-    if (plan_length < 3 || plan_length != 3 + body[2])
+    if (plan_length < 3 || !ends_exactly(body + 3, plan_length - 3, body[2]))
         return 3;
     if (!read_plan(plan, body))
         return 4;

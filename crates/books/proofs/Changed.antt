@@ -45,7 +45,7 @@ cut-first n file some = getD-take n (drop 11 file) 0 0 some ∙ getD-drop 11 fil
 -- the plan body of an accepted file is not empty
 module _ (file : List ℕ) (e : fileNumber file ≡ 0) where
   plan-there : 0 < length (planBody file)
-  plan-there = omega (arith, accepted file e .plan-long)
+  plan-there = omega (arith, accepted file e .plan-least)
 
   entry-there : 0 < entryLength file 1
   unfolding planBody

@@ -8,11 +8,11 @@ use native.Mathlib.Nat.{eq-or-lt-of-le}
 use native.Mathlib.Omega.{arith}
 use lib.Dec.{eqb, leb}
 use borrow.Author.Tests.{eq-eqb, eqb-true, eqb-false, le-leb, lt-leb}
-use Rattle.lists.specs.Loops.{every}
 use Rattle.lists.specs.Refusal.{refusedIf}
 use Rattle.lists.proofs.Tests.{by-value, at-most-or-above, or-left, or-right, or-second, or-by-first, or-by-second}
 use Rattle.plan.specs.declared.Plan.{Plan}
-use Rattle.plan.specs.Plan.{positionPlaces, placeInRange, headsInRange, inRange}
+use Rattle.positions.specs.Ring.{nodesIn}
+use Rattle.plan.specs.Plan.{headsInRange, positionsRead, ringOf, junctionsAllowed, inRange}
 use Rattle.books.specs.Alike.{underPlan}
 use Rattle.books.specs.Before.{headsInRange01, inRange01}
 
@@ -39,7 +39,7 @@ unfolding inRange inRange01 headsInRange headsInRange01
 range-as-in-01 plan old =
     let most = at-most-two (plan .rules) (eqb-false _ _ (or-left _ _ old)) (eqb-false _ _ (or-right (eqb (plan .rules) 3) _ old)) in
     λ i. leb 1 (plan .rules) && most i && leb 1 (plan .locks) && leb (plan .locks) 64 && leb 1 (plan .positions)
-    && leb (plan .positions) positionPlaces && every (placeInRange plan) (plan .positions)
+    && leb (plan .positions) 16 && positionsRead plan .right && leb (nodesIn (ringOf plan)) 64 && junctionsAllowed plan
 
 -- and one whose rules are was out of range
 pub out-of-range-01 : (plan : Plan) → (eqb (plan .rules) 3 || eqb (plan .rules) 4) ≡ true → inRange01 plan ≡ false

@@ -5,16 +5,17 @@ use mathlib.Core.Path.{_≡_, refl, _∙_}
 use mathlib.Core.Bool.{Bool, true, false, cond, _&&_, _||_}
 use lib.Dec.{eqb, leb}
 use lib.ListN.{getD, set}
-use Rattle.lists.specs.Loops.{every, total, iterate, inOrder}
+use Rattle.lists.specs.Loops.{every}
 use Rattle.lists.specs.Refusal.{refusedIf}
 use Rattle.plan.specs.declared.Plan.{Plan}
-use Rattle.plan.specs.Plan.{positionPlaces, valueAt, valueInRange, placeInRange, headsInRange, inRange, sizeOf, junctionsOf, nodesBefore, junctionsBefore, nodeCount, junctionCount}
+use Rattle.positions.specs.Ring.{Ring, noMore, userNode, aJunction, nodesIn, junctionsIn}
+use Rattle.plan.specs.Plan.{headsInRange, positionsRead, ringOf, junctionsAllowed, inRange, nodeCount, junctionCount}
 use Rattle.usernode.specs.Astray.{astray}
 use Rattle.zeronode.specs.Turn.{zeroTurn, overflows}
 use Rattle.ring.specs.declared.State.{State}
 use Rattle.ring.specs.State.{restNode, restJunction}
 use Rattle.ring.specs.Sound.{zeroPasses, nodePasses, junctionPasses, sound}
-use Rattle.ring.specs.Walk.{nodeHere, junctionHere, turnHere, onNode, wanted, intoSubring, outOfSubring, onJunction, onPosition, setOut, walk}
+use Rattle.ring.specs.Walk.{nodeHere, junctionHere, turnHere, onNode, wanted, enters, leaves, along, setOut, walk}
 use Rattle.ring.specs.Step.{StepTold, nextState, stepNumber, refused, done, moving, stepping}
 use Rattle.books.specs.Alike.{Alike, underPlan, under, underStep}
 use Rattle.books.proofs.Rules.{turn-same, node-sound, zero-sound, junction-sound}
@@ -22,18 +23,18 @@ use Rattle.books.proofs.Rules.{turn-same, node-sound, zero-sound, junct
 -- the range of a plan, its user nodes and its junctions
 module _ (k : ℕ) (plan : Plan) (a : Alike k (plan .rules)) where
   pub range-under : inRange (underPlan k plan) ≡ inRange plan
-  unfolding inRange headsInRange placeInRange valueInRange valueAt
+  unfolding inRange headsInRange junctionsAllowed ringOf positionsRead
   range-under =
-      λ i. a .least i && a .most i && leb 1 (plan .locks) && leb (plan .locks) 64 && leb 1 (plan .positions) && leb (plan .positions) positionPlaces
-      && every (λ place. leb (getD (plan .values) place 0) 4 && (a .many i || eqb (getD (plan .values) place 0) 0)) (plan .positions)
+      λ i. a .least i && a .most i && leb 1 (plan .locks) && leb (plan .locks) 64 && leb 1 (plan .positions) && leb (plan .positions) 16
+      && positionsRead plan .right && leb (nodesIn (ringOf plan)) 64 && (a .many i || eqb (junctionsIn (ringOf plan)) 0)
 
   pub nodes-under : nodeCount (underPlan k plan) ≡ nodeCount plan
-  unfolding nodeCount nodesBefore valueAt
-  nodes-under = λ i. cond (range-under i) (total (λ place. sizeOf (getD (plan .values) place 0)) (plan .positions)) 0
+  unfolding nodeCount ringOf positionsRead
+  nodes-under = λ i. cond (range-under i) (nodesIn (ringOf plan)) 0
 
   pub junctions-under : junctionCount (underPlan k plan) ≡ junctionCount plan
-  unfolding junctionCount junctionsBefore valueAt
-  junctions-under = λ i. cond (range-under i) (total (λ place. junctionsOf (getD (plan .values) place 0)) (plan .positions)) 0
+  unfolding junctionCount ringOf positionsRead
+  junctions-under = λ i. cond (range-under i) (junctionsIn (ringOf plan)) 0
 
 -- a choice of what is under these rules
 step-chosen : (k : ℕ) (test : Bool) (one other : StepTold) → cond test (underStep k one) (underStep k other) ≡ underStep k (cond test one other)
@@ -53,7 +54,7 @@ module _ (k : ℕ) (state : State) (a : Alike k (state .plan .rules)) where
       && every (λ place. node-sound k rules a i (nodes i) locks (getD (state .nodes) place restNode)) (nodes i)
       && every (λ place. junction-sound k rules a i (nodes i) locks (getD (state .junctions) place restJunction)) (junctions-under k (state .plan) a i)
 
-  -- the walk past a node, past a junction, past a position, past all of them
+  -- the walk past a node, along a ring, along the plan's ring
   node-under : onNode (under k state) ≡ onNode state
   unfolding onNode turnHere nodeHere
   node-under =
@@ -69,15 +70,16 @@ module _ (k : ℕ) (state : State) (a : Alike k (state .plan .rules)) where
         junctions = walk .junctions;
       }
 
-  junction-under : onJunction (under k state) ≡ onJunction state
-  unfolding onJunction outOfSubring intoSubring junctionHere wanted
-  junction-under = λ i size walk. outOfSubring state size walk (iterate (node-under i) size (intoSubring state walk))
+  along-under : (inner : Bool) (ring : Ring) → along (under k state) inner ring ≡ along state inner ring
+  unfolding along enters leaves junctionHere wanted
+  along-under inner noMore = refl
+  along-under inner (userNode rest) = λ i walk. along-under inner rest i (node-under i walk)
+  along-under inner (aJunction subring rest) =
+      λ i walk. along-under inner rest i (leaves state inner (nodesIn subring) walk (along-under true subring i (enters state walk)))
 
   pub walk-under : walk (under k state) ≡ walk state
-  unfolding walk onPosition valueAt setOut
-  walk-under =
-      λ i. inOrder (λ place walk. let value = getD (state .plan .values) place 0 in cond (eqb value 0) (node-under i walk) (junction-under i value walk))
-      (state .plan .positions) (setOut state)
+  unfolding walk setOut ringOf positionsRead
+  walk-under = λ i. along-under false (ringOf (state .plan)) i (setOut state)
 
   -- a step that 13 does not refuse
   moving-under : moving (under k state) ≡ underStep k (moving state)

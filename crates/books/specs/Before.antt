@@ -4,11 +4,11 @@ use Prim.Native.Nat.{ℕ, _+_}
 use mathlib.Core.Bool.{Bool, cond, not, _&&_}
 use mathlib.Core.List.{List, [], _∷_}
 use lib.Dec.{eqb, ltb, leb}
-use Rattle.lists.specs.Loops.{every}
 use Rattle.lists.specs.Refusal.{refusedIf}
 use Rattle.cars.specs.Cars.{isNode}
 use Rattle.plan.specs.declared.Plan.{Plan}
-use Rattle.plan.specs.Plan.{positionPlaces, placeInRange, nodeCount}
+use Rattle.positions.specs.Ring.{nodesIn}
+use Rattle.plan.specs.Plan.{positionsRead, ringOf, junctionsAllowed, nodeCount}
 use Rattle.usernode.specs.declared.Node.{Node}
 use Rattle.usernode.specs.Node.{isIdle}
 use Rattle.acts.specs.declared.Action.{Action}
@@ -44,10 +44,10 @@ headsInRange01 plan =
     && leb 1 (plan .locks)
     && leb (plan .locks) 64
     && leb 1 (plan .positions)
-    && leb (plan .positions) positionPlaces
+    && leb (plan .positions) 16
 
 unfoldable pub inRange01 : Plan → Bool
-inRange01 plan = headsInRange01 plan && every (placeInRange plan) (plan .positions)
+inRange01 plan = headsInRange01 plan && positionsRead plan .right && leb (nodesIn (ringOf plan)) 64 && junctionsAllowed plan
 
 -- "For a file, 1 to 6: the lowest that applies", with that range
 unfoldable pub bodiesNumber01 : List ℕ → List ℕ → ℕ

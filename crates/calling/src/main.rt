@@ -2,8 +2,8 @@
 // Each function answers every input; a number says why a start, an action or a step was refused (README.md has the list), 0
 // that it was done. A state is handed in and handed back by value.
 use libc::STDOUT_FILENO;
-use plan::POSITIONS;
 use plan::Plan;
+use positions::VALUES;
 use ring::State;
 
 // Writes what was asked and a number.
@@ -16,7 +16,7 @@ fn say(what: &[u8], number: u64) {
 
 // Multiring rules, one lock, two positions: a junction with two nodes (1 and 2), then node 3 on the main ring.
 fn small_plan() -> Plan {
-    let mut values = [0u8; POSITIONS];
+    let mut values = [0u8; VALUES];
     values[0] = 2;
     Plan {
         rules: 2,

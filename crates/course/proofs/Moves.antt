@@ -17,7 +17,8 @@ use Rattle.ring.specs.declared.State.{State}
 use Rattle.ring.specs.State.{Told}
 use Rattle.ring.specs.Sound.{sound}
 use Rattle.ring.specs.Actions.{actionNumber, actedState, handedBack, acting}
-use Rattle.ring.proofs.Laws.{nodes-most as count-most, stepping-plan}
+use Rattle.plan.proofs.Laws.{nodes-most as count-most}
+use Rattle.ring.proofs.Laws.{stepping-plan}
 use Rattle.course.specs.declared.Run.{Run}
 use Rattle.course.specs.declared.Phase.the-variants.{Items, Ended, Cut}
 use Rattle.course.specs.Standing.{nodesOf, reachedNext, oneStep, past, stepsItem, actionItem, atEnd}

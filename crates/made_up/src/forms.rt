@@ -8,7 +8,7 @@ pub const END: u64 = 0;
 // The number of a node, 1 to 64.
 const NODE: u64 = 1;
 
-// The number of a junction, 1 to 16.
+// The number of a junction, 1 to 144.
 const JUNCTION: u64 = 2;
 
 // A place of the queue, 0 to 64.
@@ -23,25 +23,28 @@ pub const MORE: u64 = 6;
 // A number of at most 2^64 - 1.
 const WORD: u64 = 7;
 
+// The place of a plan's value, 0 to 351; two words are skipped behind it, so that values have the cells that a plan's have.
+const FROM: u64 = 8;
+
 // The name of a car; its lock and source have digits of their own, which are skipped if it has none.
-const CAR: u64 = 8;
+const CAR: u64 = 9;
 
 // The name of an activity; its lock likewise.
-const ACTIVITY: u64 = 9;
+const ACTIVITY: u64 = 10;
 
 // The name of a command, and of a thing that is shown: the name says the form of the rest of the line.
-const COMMAND: u64 = 10;
+const COMMAND: u64 = 11;
 
-const THING: u64 = 11;
+const THING: u64 = 12;
 
 // No word.
 const NOTHING: u64 = 15;
 
 // From here on forms start with a name, below with a number.
-pub const NAMES: u64 = 0x8000_0000_0000_0000;
+pub const NAMES: u64 = 0x9000_0000_0000_0000;
 
 // The form of every line, and one that no line has.
-pub const ANY: u64 = 0xa000_0000_0000_0000;
+pub const ANY: u64 = 0xb000_0000_0000_0000;
 
 pub const NONE: u64 = 0xf000_0000_0000_0000;
 
@@ -54,11 +57,12 @@ fn of_command(name: u64) -> u64 {
         names::KEEP | names::BACK | names::STEP => 0,
         names::TAKE | names::RELEASE | names::FORCE => 0x5500_0000_0000_0000,
         names::PLAN | names::START => 0x5556_0000_0000_0000,
-        names::ZERO => 0x8555_0000_0000_0000,
-        names::QUEUE => 0x3855_0000_0000_0000,
-        names::NODE => 0x1855_4957_7000_0000,
-        names::JUNCTION => 0x2855_8554_4700_0000,
-        names::SHOW => 0xb000_0000_0000_0000,
+        names::VALUES => 0x8556_0000_0000_0000,
+        names::ZERO => 0x9555_0000_0000_0000,
+        names::QUEUE => 0x3955_0000_0000_0000,
+        names::NODE => 0x1955_4a57_7000_0000,
+        names::JUNCTION => 0x2955_9554_4700_0000,
+        names::SHOW => 0xc000_0000_0000_0000,
         _ => NONE,
     }
 }
@@ -70,6 +74,7 @@ fn of_thing(name: u64) -> u64 {
         names::NODE => 0x1000_0000_0000_0000,
         names::JUNCTION => 0x2000_0000_0000_0000,
         names::QUEUE => 0x3000_0000_0000_0000,
+        names::VALUES => 0x8000_0000_0000_0000,
         _ => NONE,
     }
 }
@@ -104,11 +109,18 @@ fn by_activity(name: u64) -> usize {
     }
 }
 
+fn by_place(value: u64) -> usize {
+    if value < 352 {
+        return 2;
+    }
+    REFUSED
+}
+
 // The numbers of nodes and junctions start at 1, all others at 0.
 fn by_number(kind: u64, value: u64) -> usize {
     let most = match kind {
         NODE | PLACE => 64,
-        JUNCTION => 16,
+        JUNCTION => 144,
         FLAG => 1,
         WORD => 18446744073709551615,
         _ => 255,
@@ -125,6 +137,7 @@ fn by_number(kind: u64, value: u64) -> usize {
 pub fn skipped(form: u64, word: u64) -> usize {
     match form >> 60 {
         END | NOTHING => REFUSED,
+        FROM => by_place(word),
         CAR => by_car(word),
         ACTIVITY => by_activity(word),
         COMMAND | THING => 0,

@@ -5,6 +5,7 @@ mod forms;
 mod making;
 mod names;
 mod reading;
+mod room;
 mod say;
 mod script;
 mod showing;
@@ -13,7 +14,7 @@ mod terms;
 // Reads standard input to its end. A byte more, or no answer, where the end should be: the text is longer than the buffer, or a
 // read failed, and nothing is done. Text behind the last line end is no line, and that is said.
 fn main() {
-    let mut buffer = io::large_buffer();
+    let mut buffer = room::for_script();
     let mut rest = [0u8; 1];
     let used = io::read_full(0, &mut buffer);
     if libc::read(0, &mut rest) == 0 {

@@ -34,12 +34,13 @@ fn with_zero(zeroth: ZeroNode, line: Line) -> ZeroNode {
     }
 }
 
-// For a line that gives a plan, a node, a junction, the zero node or a place of its queue.
+// For a line that gives a plan, values of it, a node, a junction, the zero node or a place of its queue.
 pub fn made(state: State, line: Line) -> State {
     let mut next = state;
     let place = terms::place(line, 1);
     match cell(line, 0) {
         names::PLAN => next.plan = terms::plan(line),
+        names::VALUES => next.plan = terms::with_values(next.plan, line),
         names::NODE => {
             if place < NODES {
                 next.nodes[place] = terms::node(line);

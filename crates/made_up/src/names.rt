@@ -6,6 +6,8 @@ pub const HEADING: u64 = 0x23;
 
 pub const PLAN: u64 = 0x706c_616e;
 
+pub const VALUES: u64 = 0x7661_6c75_6573;
+
 pub const START: u64 = 0x73_7461_7274;
 
 pub const ZERO: u64 = 0x7a65_726f;

@@ -4,8 +4,8 @@ use cars::Car;
 use junction::Junction;
 use plan::JUNCTIONS;
 use plan::NODES;
-use plan::POSITIONS;
 use plan::Plan;
+use positions::VALUES;
 use ring::Happening;
 use turns::Event;
 use usernode::Activity;
@@ -132,16 +132,27 @@ pub fn junction(junctions: [Junction; JUNCTIONS], place: usize) {
     }
 }
 
-// All values, in use or not.
+// Sixteen values from a place on, in use or not; fewer where there are no more.
+pub fn values(plan: Plan, from: usize) {
+    let mut place = from;
+    let mut left: u8 = 16;
+    while 0 < left {
+        if place < VALUES {
+            small(plan.values[place]);
+            place += 1;
+            left -= 1;
+        } else {
+            left = 0;
+        }
+    }
+}
+
+// Its first values.
 pub fn plan(plan: Plan) {
-    let mut i = 0;
     small(plan.rules);
     small(plan.locks);
     small(plan.positions);
-    while i < POSITIONS {
-        small(plan.values[i]);
-        i += 1;
-    }
+    values(plan, 0);
 }
 
 // A node's event, if it has one: node, letter, lock.

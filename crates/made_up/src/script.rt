@@ -7,8 +7,8 @@ use crate::reading;
 use crate::reading::Line;
 use crate::say;
 use crate::showing;
-use plan::POSITIONS;
 use plan::Plan;
+use positions::VALUES;
 use ring::State;
 
 fn first() -> State {
@@ -16,7 +16,7 @@ fn first() -> State {
         rules: 1,
         locks: 1,
         positions: 1,
-        values: [0u8; POSITIONS],
+        values: [0u8; VALUES],
     });
     started.state
 }
@@ -24,9 +24,10 @@ fn first() -> State {
 // The state after a line, and what the line answers.
 fn obeyed(state: State, line: Line) -> State {
     match reading::command(line) {
-        names::PLAN | names::ZERO | names::QUEUE | names::NODE | names::JUNCTION => {
-            return making::made(state, line);
-        }
+        names::PLAN | names::VALUES | names::ZERO | names::QUEUE | names::NODE | names::JUNCTION =>
+            {
+                return making::made(state, line);
+            }
         names::START => return asking::start(line),
         names::STEP => return asking::step(state),
         names::TAKE | names::RELEASE | names::FORCE => return asking::act(state, line),

@@ -6,11 +6,12 @@ use crate::say;
 use crate::terms;
 use ring::State;
 
-// plan, zero, node N, junction N or queue PLACE.
+// plan, values FROM, zero, node N, junction N or queue PLACE.
 pub fn show(state: State, line: Line) {
     say::byte(b':');
     match cell(line, 1) {
         names::PLAN => say::plan(state.plan),
+        names::VALUES => say::values(state.plan, terms::from(line, 2)),
         names::ZERO => say::zero(state.zeroth),
         names::QUEUE => say::queued(state.zeroth, terms::small(line, 2) as usize),
         names::NODE => {

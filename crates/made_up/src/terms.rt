@@ -6,8 +6,8 @@ use cars::Car;
 use cars::Notice;
 use cars::Tag;
 use junction::Junction;
-use plan::POSITIONS;
 use plan::Plan;
+use positions::VALUES;
 use usernode::Activity;
 use usernode::Node;
 
@@ -88,18 +88,45 @@ pub fn junction(line: Line) -> Junction {
     }
 }
 
-// Rules, locks, number of positions, values.
-pub fn plan(line: Line) -> Plan {
-    let mut values = [0u8; POSITIONS];
-    let mut i = 0;
-    while i < POSITIONS {
-        values[i] = small(line, i + 4);
-        i += 1;
+// The place of a plan's value.
+pub fn from(line: Line, at: usize) -> usize {
+    (cell(line, at) % 65536) as usize
+}
+
+// Values with sixteen of a line from a place on; those for places behind the last one are left out.
+fn valued(values: [u8; VALUES], from: usize, line: Line) -> [u8; VALUES] {
+    let mut next = values;
+    let mut place = from;
+    let mut i: usize = 0;
+    while i < 16 {
+        if place < VALUES {
+            next[place] = small(line, i + 4);
+            place += 1;
+            i += 1;
+        } else {
+            i = 16;
+        }
     }
+    next
+}
+
+// Rules, locks, number of positions, the first values; all others are 0.
+pub fn plan(line: Line) -> Plan {
     Plan {
         rules: small(line, 1),
         locks: small(line, 2),
         positions: small(line, 3),
-        values: values,
+        values: valued([0u8; VALUES], 0, line),
+    }
+}
+
+// Place, values.
+pub fn with_values(plan: Plan, line: Line) -> Plan {
+    let values = plan.values;
+    Plan {
+        rules: plan.rules,
+        locks: plan.locks,
+        positions: plan.positions,
+        values: valued(values, from(line, 1), line),
     }
 }

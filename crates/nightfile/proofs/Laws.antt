@@ -9,9 +9,10 @@ use native.Mathlib.Omega.{arith}
 use lib.Dec.{eqb, ltb}
 use lib.ListN.{length, getD, take, drop, set, replicate, length-append, length-replicate, length-drop}
 use lib.Seq.{take-suc, set-at, length-take-le, append-snoc, take-all}
-use borrow.Author.Tests.{eqb-true, ltb-false, not-false}
+use borrow.Author.Tests.{eqb-true, le-ltb, ltb-false, not-false}
 use Rattle.lists.specs.Refusal.{refusedIf}
 use Rattle.lists.proofs.Laws.{and-right}
+use Rattle.positions.specs.Shape.{endsAt}
 use Rattle.plan.specs.Plan.{inRange}
 use Rattle.nightfile.specs.File.{byteAt, lengthWrong, entryAt, entryLength, scheduleStart, contentsRight, planBody, scheduleBody, planLengthWrong, planOf, scheduleNumber, bodiesNumber, fileNumber, Told, numberAndPlace, fileTold, filePlace, ifAccepted, planPart, partAt, fileAnswerNumber, fileAnswerPlace, fileAnswerTold}
 use Rattle.nightfile.specs.declared.FileAnswer.{FileAnswer}
@@ -52,6 +53,18 @@ pub plan-cut : (file : List ℕ) → take (scheduleStart file - 11) (drop 11 fil
 unfolding planBody scheduleStart
 plan-cut file = rw add-sub-cancel-left
 
+-- the bytes of a plan body's positions
+pub positions-cut : (body : List ℕ) → take (length body - 3) (drop 3 body) ≡ drop 3 body
+positions-cut body = take-all (length body - 3) (drop 3 body) (simp length-drop (omega arith))
+
+-- a body of 3 bytes or more is too long or too short where its positions do not end with it
+pub ends-or-wrong : (body : List ℕ) (ends : Bool) → 3 ≤ length body → ends ≡ endsAt false (byteAt body 2) (take (length body - 3) (drop 3 body))
+    → not ends ≡ planLengthWrong body
+unfolding planLengthWrong
+ends-or-wrong body ends long e =
+    let here : ends ≡ endsAt false (byteAt body 2) (drop 3 body) = e ∙ ap (endsAt false (byteAt body 2)) (positions-cut body) in
+    rw (le-ltb (length body) 3 long) (ap not here)
+
 pub schedule-cut : (file : List ℕ) → take (length file - scheduleStart file) (drop (scheduleStart file) file) ≡ scheduleBody file
 unfolding scheduleBody
 schedule-cut file = take-all (length file - scheduleStart file) (drop (scheduleStart file) file) (simp length-drop (omega arith))
@@ -82,7 +95,8 @@ pub record AcceptedFile (file : List ℕ) : Type 0 where
   pub least : 11 ≤ length file
   pub most : length file ≤ 65535
   pub contents : contentsRight file ≡ true
-  pub plan-long : length (planBody file) ≡ 3 + byteAt (planBody file) 2
+  pub plan-least : 3 ≤ length (planBody file)
+  pub plan-ends : endsAt false (byteAt (planBody file) 2) (drop 3 (planBody file)) ≡ true
   pub in-range : inRange (planOf (planBody file)) ≡ true
   pub schedule : scheduleNumber (scheduleBody file) ≡ 0
 
@@ -106,7 +120,8 @@ accepted file e =
       least = ltb-false _ _ (ends .0);
       most = ltb-false _ _ (ends .1);
       contents = not-false _ (contents .0);
-      plan-long = eqb-true _ _ (not-false _ (plan .1));
+      plan-least = ltb-false _ _ (plan .0);
+      plan-ends = not-false _ (plan .1);
       in-range = bodies .1;
       schedule = bodies .2;
     }

@@ -1,13 +1,14 @@
 -- 01, "The night file and its items": the file, its two bodies, the plan; the numbers 1 to 6, and with 6 where the first bad item is.
 use Prim.Native.Nat.{ℕ, _+_, _*_, _/_, _%_}
-use mathlib.Core.Bool.{Bool, cond, not, _&&_, _||_}
+use mathlib.Core.Bool.{Bool, false, cond, not, _&&_, _||_}
 use mathlib.Core.List.{List, [], _++_}
 use lib.Dec.{eqb, ltb, leb}
 use lib.ListN.{length, getD, take, drop, replicate}
 use Rattle.lists.specs.Loops.{every, firstNot}
 use Rattle.lists.specs.Refusal.{refusedIf}
 use Rattle.plan.specs.declared.Plan.{Plan}
-use Rattle.plan.specs.Plan.{positionPlaces, inRange}
+use Rattle.positions.specs.Shape.{endsAt}
+use Rattle.plan.specs.Plan.{valuePlaces, inRange}
 use Rattle.nightfile.specs.declared.FileAnswer.{FileAnswer}
 use Rattle.nightfile.specs.declared.FileAnswer.the-variants.{Accepted, WrongLength, WrongContents, WrongPlanLength, PlanOutOfRange, BytesLeftOver, BadItem}
 
@@ -49,15 +50,15 @@ planBody file = take (entryLength file 1) (drop 11 file)
 unfoldable pub scheduleBody : List ℕ → List ℕ
 scheduleBody file = drop (scheduleStart file) file
 
--- 3 "plan body under 3 bytes, or not 3 plus its number of positions"
+-- 3 "plan body under 3 bytes, or does not end exactly where its positions do" (docs/NESTED.md)
 unfoldable pub planLengthWrong : List ℕ → Bool
-planLengthWrong body = ltb (length body) 3 || not (eqb (length body) (3 + byteAt body 2))
+planLengthWrong body = ltb (length body) 3 || not (endsAt false (byteAt body 2) (drop 3 body))
 
--- "then one byte a position": the first 16 of them, which is all that a plan in range has; places without a byte are 0
+-- the bytes of the positions: the first 352 of them, which is all that a plan in range has; places without a byte are 0
 unfoldable pub planValues : List ℕ → List ℕ
-planValues body = take positionPlaces (drop 3 body ++ replicate positionPlaces 0)
+planValues body = take valuePlaces (drop 3 body ++ replicate valuePlaces 0)
 
--- "Plan: rules (1 ring, 2 multiring), locks, number of positions, then one byte a position."; 02, item 4 has rules 3 and 4
+-- "Plan: rules (1 ring, 2 multiring), locks, number of positions, then one byte a position."; 02, item 4 has rules 3 and 4, item 6 lists of positions
 unfoldable pub planOf : List ℕ → Plan
 planOf body =
     record {

@@ -2,26 +2,29 @@
 ghost use mathlib.Core.Path.{_≡_};
 ghost use Rattle.nightfile.specs.File.{planLengthWrong, planValues, firstBadItem, scheduleNumber, bodiesNumber, numberAndPlace, fileAnswerTold};
 use crate::FileAnswer;
-use plan::POSITIONS;
+use positions::VALUES;
 
-// Whether a plan body is under 3 bytes, or not 3 plus its number of positions (3).
+// Whether a plan body is under 3 bytes, or does not end exactly where its positions do (3).
 fn plan_length_wrong(body: &[u8]) -> bool
     ensures { λ r. ⌜ r ≡ planLengthWrong (now (body .entry)) ⌝ }
 {
     if body.len() < 3 {
         return true;
     }
-    let positions = body[2];
-    body.len() != 3 + positions as usize
+    let count = body[2];
+    if positions::ends_exactly(&body[3..], count) {
+        return false;
+    }
+    true
 }
 
-// The values of a plan body: one byte a position for the first 16, and 0 at the places without a byte.
-pub fn plan_values(body: &[u8]) -> [u8; POSITIONS]
+// The bytes of a plan body's positions, the first 352, and 0 at the places without a byte.
+pub fn plan_values(body: &[u8]) -> [u8; VALUES]
     ensures { λ r. ⌜ r ≡ planValues (now (body .entry)) ⌝ }
 {
-    let mut values = [0u8; POSITIONS];
+    let mut values = [0u8; VALUES];
     let mut i = 0;
-    while i < POSITIONS {
+    while i < VALUES {
         values[i] = crate::contents::byte_at(body, 3 + i);
         i += 1;
     }

@@ -18,7 +18,8 @@ use Rattle.acts.specs.declared.Action.{Action}
 use Rattle.ring.specs.declared.State.{State}
 use Rattle.ring.specs.declared.Happening.{Happening}
 use Rattle.ring.specs.State.{restNode, startOf}
-use Rattle.ring.proofs.Laws.{nodes-most as count-most, stepping-plan}
+use Rattle.plan.proofs.Laws.{nodes-most as count-most}
+use Rattle.ring.proofs.Laws.{stepping-plan}
 use Rattle.ring.specs.Actions.{acting}
 use Rattle.ring.specs.Step.{stepping}
 use Rattle.tally.specs.Tally.{busy}

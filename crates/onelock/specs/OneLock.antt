@@ -3,12 +3,13 @@ use Prim.Native.Nat.{ℕ, zero, suc, _+_, _*_}
 use mathlib.Core.Path.{_≡_}
 use mathlib.Core.Bool.{Bool, true, false, cond, not, _&&_}
 use mathlib.Core.List.{List, [], _∷_, _++_}
-use lib.Dec.{eqb}
+use lib.Dec.{eqb, ltb, leb}
 use lib.ListN.{getD}
 use Rattle.lists.specs.Loops.{some}
 use Rattle.cars.specs.Cars.{multiring}
 use Rattle.plan.specs.declared.Plan.{Plan}
-use Rattle.plan.specs.Plan.{valueAt, nodesBefore, junctionsBefore, nodeCount}
+use Rattle.positions.specs.Ring.{Ring, noMore, userNode, aJunction, nodesIn}
+use Rattle.plan.specs.Plan.{ringOf, nodeCount}
 use Rattle.turns.specs.declared.Event.{Event}
 use Rattle.turns.specs.declared.Event.the-variants.{Nothing, Granted, Failed, Lost, Back, Sent}
 use Rattle.usernode.specs.Node.{had}
@@ -178,9 +179,38 @@ isBroken free = false
 isBroken (heldBy node) = false
 isBroken broken = true
 
--- "its lock word has exactly the locks that some node of its subring holds or is letting go", of the junction at a position
-unfoldable pub junctionAt : State → ℕ → Junction
-junctionAt state place = getD (state .junctions) (junctionsBefore (state .plan) place) restJunction
+-- "all nodes within a junction" (docs/NESTED.md): so many from a place on
+pub record Within : Type 0 where
+  pub low : ℕ
+  pub many : ℕ
 
-unfoldable pub subringHas : State → ℕ → ℕ → Bool
-subringHas state place lock = some (λ k. had (getD (state .nodes) (nodesBefore (state .plan) place + k) restNode) lock) (valueAt (state .plan) place)
+-- the junctions along a ring whose first node stands at this place, in travelling order, each with the nodes within it
+unfoldable pub junctionsFrom : Ring → ℕ → List Within
+junctionsFrom noMore place = []
+junctionsFrom (userNode rest) place = junctionsFrom rest (place + 1)
+junctionsFrom (aJunction subring rest) place =
+    record { low = place; many = nodesIn subring } ∷ (junctionsFrom subring place ++ junctionsFrom rest (place + nodesIn subring))
+
+-- the nodes within the junction at a place of the state's junctions
+unfoldable pub within : Plan → ℕ → Within
+within plan junction = getD (junctionsFrom (ringOf plan) 0) junction (record { low = 0; many = 0 })
+
+-- "its lock word has exactly the locks that some node within holds or is letting go", of that junction
+unfoldable pub junctionAt : State → ℕ → Junction
+junctionAt state junction = getD (state .junctions) junction restJunction
+
+unfoldable pub somebodyWithinHas : State → ℕ → ℕ → Bool
+somebodyWithinHas state junction lock =
+    some (λ k. had (getD (state .nodes) (within (state .plan) junction .low + k) restNode) lock) (within (state .plan) junction .many)
+
+-- a node is within the junction at a place
+unfoldable pub isWithin : Plan → ℕ → ℕ → Bool
+isWithin plan junction node = ltb (within plan junction .low) node && leb node (within plan junction .low + within plan junction .many)
+
+-- the junction at the second place is within the one at the first: it comes later in travelling order, and the nodes within it are among those within
+-- the first
+unfoldable pub standsAround : Plan → ℕ → ℕ → Bool
+standsAround plan outer inner =
+    ltb outer inner
+    && leb (within plan outer .low) (within plan inner .low)
+    && leb (within plan inner .low + within plan inner .many) (within plan outer .low + within plan outer .many)

@@ -1,16 +1,19 @@
--- Laws of a plan: what being in range says field by field, and how many user nodes and junctions its first positions have.
-use Prim.Native.Nat.{ℕ, zero, suc, _+_, _*_, _≤_, _<_}
-use mathlib.Core.Path.{_≡_}
-use mathlib.Core.Bool.{Bool, true, false, _&&_, _||_}
+-- Laws of a plan: what being in range says field by field, and how many user nodes and junctions there are.
+use Prim.Native.Nat.{ℕ, _≤_}
+use mathlib.Core.Path.{_≡_, refl}
+use mathlib.Core.Bool.{Bool, true, false, cond, _&&_, _||_}
 use native.Mathlib.Omega.{arith}
-use lib.Dec.{eqb, leb, lit≤, eqb·suc-zero}
+use lib.Dec.{eqb, leb}
 use borrow.Author.Tests.{leb-true}
-use Rattle.lists.specs.Loops.{every}
-use Rattle.lists.proofs.Laws.{and-left, and-right, every-at, total-none, total-more, total-at-most, total-within}
+use Rattle.lists.proofs.Laws.{and-left, and-right}
 use Rattle.cars.specs.Cars.{multiring}
+use Rattle.positions.specs.declared.Survey.{Survey}
+use Rattle.positions.specs.Ring.{nodesIn, junctionsIn}
+use Rattle.positions.specs.Reading.{mainRing, surveyOf}
 use Rattle.plan.specs.declared.Plan.{Plan}
-use Rattle.plan.specs.Plan.{valueAt, valueInRange, placeInRange, headsInRange, inRange, sizeOf, junctionsOf, nodesBefore, junctionsBefore, nodeCount, junctionCount}
-use Rattle.plan.specs.Theorems.{AtMost64Nodes}
+use Rattle.plan.specs.Plan.{headsInRange, positionsRead, ringOf, junctionsAllowed, inRange, nodeCount, junctionCount, planSurvey}
+use Rattle.plan.specs.Theorems.{AtMost64Nodes, AtMost144Junctions}
+use Rattle.positions.proofs.Theorems.{at-most-144-junctions}
 
 -- six tests that hold together hold each
 all-six : (a b c d e f : Bool) → (a && b && c && d && e && f) ≡ true →
@@ -45,12 +48,16 @@ pub record Range (plan : Plan) : Type 0 where
   pub locks-most : plan .locks ≤ 64
   pub positions-least : 1 ≤ plan .positions
   pub positions-most : plan .positions ≤ 16
-  pub values : every (placeInRange plan) (plan .positions) ≡ true
+  pub right : positionsRead plan .right ≡ true
+  pub nodes-most : nodesIn (ringOf plan) ≤ 64
+  pub allowed : junctionsAllowed plan ≡ true
 
 pub in-range : (plan : Plan) → inRange plan ≡ true → Range plan
 unfolding inRange
 in-range plan e =
-    let heads = heads-in-range plan (and-left (headsInRange plan) _ e) in
+    let three = and-left (headsInRange plan && positionsRead plan .right && leb (nodesIn (ringOf plan)) 64) (junctionsAllowed plan) e in
+    let two = and-left (headsInRange plan && positionsRead plan .right) (leb (nodesIn (ringOf plan)) 64) three in
+    let heads = heads-in-range plan (and-left (headsInRange plan) (positionsRead plan .right) two) in
     record {
       rules-least = heads .0;
       rules-most = heads .1;
@@ -58,95 +65,70 @@ in-range plan e =
       locks-most = heads .3;
       positions-least = heads .4;
       positions-most = heads .5;
-      values = and-right (headsInRange plan) _ e;
+      right = and-right (headsInRange plan) (positionsRead plan .right) two;
+      nodes-most = leb-true _ _ (and-right (headsInRange plan && positionsRead plan .right) (leb (nodesIn (ringOf plan)) 64) three);
+      allowed = and-right (headsInRange plan && positionsRead plan .right && leb (nodesIn (ringOf plan)) 64) (junctionsAllowed plan) e;
     }
 
--- each value tested is at most 4
-pub value-at-most : (plan : Plan) (n place : ℕ) → every (placeInRange plan) n ≡ true → place < n → valueAt plan place ≤ 4
-unfolding placeInRange valueInRange
-value-at-most plan n place e below =
-    leb-true (valueAt plan place) 4
-    (and-left (leb (valueAt plan place) 4) (multiring (plan .rules) || eqb (valueAt plan place) 0) (every-at (placeInRange plan) n place e below))
-
--- a position of value 0 is one user node and no junction; one of another value is so many user nodes and one junction
-pub size-one : (value : ℕ) → eqb value 0 ≡ true → sizeOf value ≡ 1
-unfolding sizeOf
-size-one value e = rw e
-
-pub size-many : (value : ℕ) → eqb value 0 ≡ false → sizeOf value ≡ value
-unfolding sizeOf
-size-many value e = rw e
-
-pub junctions-of-node : (value : ℕ) → eqb value 0 ≡ true → junctionsOf value ≡ 0
-unfolding junctionsOf
-junctions-of-node value e = rw e
-
-pub junctions-of-junction : (value : ℕ) → eqb value 0 ≡ false → junctionsOf value ≡ 1
-unfolding junctionsOf
-junctions-of-junction value e = rw e
-
--- a value at most 4 has at most 4 user nodes
-size-most : (value : ℕ) → value ≤ 4 → sizeOf value ≤ 4
-unfolding sizeOf
-size-most zero h = lit≤ tt
-size-most (suc value) h = rw eqb·suc-zero h
-
--- a value has at most one junction
-one-junction : (value : ℕ) → junctionsOf value ≤ 1
-unfolding junctionsOf
-one-junction zero = lit≤ tt
-one-junction (suc value) = rw eqb·suc-zero (lit≤ tt)
-
--- the user nodes of no position, of one position more, and of positions in range
-pub nodes-none : (plan : Plan) → nodesBefore plan 0 ≡ 0
-unfolding nodesBefore
-nodes-none plan = total-none _
-
-pub nodes-more : (plan : Plan) (n : ℕ) → nodesBefore plan (n + 1) ≡ nodesBefore plan n + sizeOf (valueAt plan n)
-unfolding nodesBefore
-nodes-more plan n = total-more _ n
-
-pub nodes-at-most : (plan : Plan) (n : ℕ) → every (placeInRange plan) n ≡ true → nodesBefore plan n ≤ 4 * n
-unfolding nodesBefore
-nodes-at-most plan n e = total-at-most _ 4 n (λ place below. size-most (valueAt plan place) (value-at-most plan n place e below))
-
--- the nodes before a place and those at it are among the nodes of n positions
-pub nodes-within : (plan : Plan) (n place : ℕ) → place < n → nodesBefore plan place + sizeOf (valueAt plan place) ≤ nodesBefore plan n
-unfolding nodesBefore
-nodes-within plan n place below = total-within _ n place below
-
--- the same laws of junctions
-pub junctions-none : (plan : Plan) → junctionsBefore plan 0 ≡ 0
-unfolding junctionsBefore
-junctions-none plan = total-none _
-
-pub junctions-more : (plan : Plan) (n : ℕ) → junctionsBefore plan (n + 1) ≡ junctionsBefore plan n + junctionsOf (valueAt plan n)
-unfolding junctionsBefore
-junctions-more plan n = total-more _ n
-
-pub junctions-at-most : (plan : Plan) (n : ℕ) → junctionsBefore plan n ≤ n
-unfolding junctionsBefore
-junctions-at-most plan n = omega (arith, total-at-most (λ place. junctionsOf (valueAt plan place)) 1 n (λ place below. one-junction (valueAt plan place)))
-
-pub junctions-within : (plan : Plan) (n place : ℕ) → place < n → junctionsBefore plan place + junctionsOf (valueAt plan place) ≤ junctionsBefore plan n
-unfolding junctionsBefore
-junctions-within plan n place below = total-within _ n place below
-
--- a plan in range has the nodes and the junctions of its positions
-pub counted : (plan : Plan) → inRange plan ≡ true → nodeCount plan ≡ nodesBefore plan (plan .positions)
+-- a plan in range has the nodes and the junctions of its ring
+pub counted : (plan : Plan) → inRange plan ≡ true → nodeCount plan ≡ nodesIn (ringOf plan)
 unfolding nodeCount
 counted plan e = rw e
 
-pub junctions-counted : (plan : Plan) → inRange plan ≡ true → junctionCount plan ≡ junctionsBefore plan (plan .positions)
+pub junctions-counted : (plan : Plan) → inRange plan ≡ true → junctionCount plan ≡ junctionsIn (ringOf plan)
 unfolding junctionCount
 junctions-counted plan e = rw e
 
-pub nodes-count-most : AtMost64Nodes
-nodes-count-most plan e =
+-- and room for them
+pub ring-junctions-most : (plan : Plan) → inRange plan ≡ true → junctionsIn (ringOf plan) ≤ 144
+unfolding ringOf positionsRead
+ring-junctions-most plan e =
     let range = in-range plan e in
-    omega (arith, counted plan e, nodes-at-most plan (plan .positions) (range .values))
+    at-most-144-junctions (plan .values) (plan .positions) (range .right) (range .positions-most) (range .nodes-most)
 
-pub junctions-count-most : (plan : Plan) → inRange plan ≡ true → junctionCount plan ≤ 16
-junctions-count-most plan e =
-    let range = in-range plan e in
-    omega (arith, junctions-counted plan e, junctions-at-most plan (plan .positions))
+pub nodes-count-most : AtMost64Nodes
+nodes-count-most plan e = omega (arith, counted plan e, in-range plan e .nodes-most)
+
+pub junctions-count-most : AtMost144Junctions
+junctions-count-most plan e = omega (arith, junctions-counted plan e, ring-junctions-most plan e)
+
+-- what is 0 unless a test holds is bounded by its bound where the test holds
+bounded : (b : Bool) (n most : ℕ) → (b ≡ true → cond b n 0 ≤ most) → cond b n 0 ≤ most
+bounded true n most holds = holds refl
+bounded false n most holds = omega arith
+
+-- any plan has at most 64 user nodes and 144 junctions: one out of range has none
+pub nodes-most : (plan : Plan) → nodeCount plan ≤ 64
+unfolding nodeCount
+nodes-most plan = bounded (inRange plan) _ 64 (nodes-count-most plan)
+
+pub junctions-most : (plan : Plan) → junctionCount plan ≤ 144
+unfolding junctionCount
+junctions-most plan = bounded (inRange plan) _ 144 (junctions-count-most plan)
+
+-- what a plan that is out of range has
+abbrev pub nothing : Survey
+nothing = record { right = false; nodes = 0; junctions = 0 }
+
+-- the survey of a plan: of its heads, then of its positions
+pub survey-of-heads : (plan : Plan) → headsInRange plan ≡ true → (s : Survey) → s ≡ surveyOf (mainRing (plan .values) (plan .positions))
+    → cond (s .right && leb (s .nodes) 64 && (multiring (plan .rules) || eqb (s .junctions) 0)) s nothing ≡ planSurvey plan
+unfolding planSurvey nodeCount junctionCount inRange junctionsAllowed ringOf positionsRead surveyOf
+survey-of-heads plan h s e =
+    let read = mainRing (plan .values) (plan .positions) in
+    rw e (rw h (go (read .right) (nodesIn (read .ring)) (junctionsIn (read .ring)) (multiring (plan .rules))))
+  where
+    one : (b : Bool) (n j : ℕ) → cond b (record { right = true; nodes = n; junctions = j }) nothing ≡ record { right = b; nodes = cond b n 0; junctions = cond b j 0 }
+    one true n j = refl
+    one false n j = refl
+
+    go : (right : Bool) (n j : ℕ) (m : Bool)
+        → (let s : Survey = cond right (record { right = true; nodes = n; junctions = j }) nothing in
+        cond (s .right && leb (s .nodes) 64 && (m || eqb (s .junctions) 0)) s nothing)
+        ≡ (let b : Bool = true && right && leb n 64 && (m || eqb j 0) in record { right = b; nodes = cond b n 0; junctions = cond b j 0 })
+    go true n j m = one (leb n 64 && (m || eqb j 0)) n j
+    go false n j m = refl
+
+pub survey-of-none : (plan : Plan) → headsInRange plan ≡ false → nothing ≡ planSurvey plan
+unfolding planSurvey nodeCount junctionCount inRange
+survey-of-none plan h = rw h refl

@@ -1,75 +1,63 @@
 // The plan: rules, locks and the positions round the main ring; its range (4), and how many nodes and junctions it has.
 ghost use mathlib.Core.Path.{_≡_};
-ghost use mathlib.Core.Bool.{true};
-ghost use Prim.Native.Nat.{_≤_};
-ghost use Rattle.lists.specs.Loops.{every};
-ghost use Rattle.plan.specs.Plan.{valueInRange, placeInRange, headsInRange, inRange, sizeOf, junctionsOf, nodesBefore, junctionsBefore, nodeCount, junctionCount, planNumber};
+ghost use mathlib.Core.Bool.{false, cond, _&&_, _||_};
+ghost use lib.Dec.{eqb, leb};
+ghost use Rattle.cars.specs.Cars.{multiring};
+ghost use Rattle.plan.specs.Plan.{headsInRange, inRange, nodeCount, junctionCount, planSurvey};
+use positions::Survey;
+use positions::VALUES;
 
-// The most positions, user nodes and junctions that a plan can have: the places that are kept for them.
-pub const POSITIONS: usize = 16;
-
+// The most user nodes and junctions that a plan can have: the places that are kept for them.
 pub const NODES: usize = 64;
 
-pub const JUNCTIONS: usize = 16;
+pub const JUNCTIONS: usize = 144;
 
-// The positions' values stand at the first `positions` places of `values`.
+// The bytes of the positions stand at the first places of `values`; `positions` counts those of the main ring.
 pub struct Plan {
     pub rules: u8,
     pub locks: u8,
     pub positions: u8,
-    pub values: [u8; POSITIONS],
+    pub values: [u8; VALUES],
 }
 
-// Whether the rules allow a position of this value.
-fn value_in_range(rules: u8, value: u8) -> bool
-    ensures { λ r. ⌜ r ≡ valueInRange rules value ⌝ }
+// Whether the rules allow so many junctions.
+fn junctions_allowed(rules: u8, junctions: u16) -> bool
+    ensures { λ r. ⌜ r ≡ (multiring rules || eqb junctions 0) ⌝ }
 {
-    if value <= 4 {
-        if cars::multiring(rules) {
-            return true;
+    if cars::multiring(rules) {
+        return true;
+    }
+    junctions == 0
+}
+
+// A plan that is out of range.
+fn out_of_range() -> Survey
+    ensures { λ r. ⌜ r ≡ record { right = false; nodes = 0; junctions = 0 } ⌝ }
+{
+    Survey {
+        right: false,
+        nodes: 0,
+        junctions: 0,
+    }
+}
+
+// What was surveyed of the positions, where it is right and the rules and the number of user nodes allow it.
+fn allowed(right: bool, rules: u8, survey: Survey) -> Survey
+    ensures { λ r. ⌜ r ≡ cond (right && leb (survey .nodes) 64 && (multiring rules || eqb (survey .junctions) 0)) survey (record { right = false; nodes = 0; junctions = 0 }) ⌝ }
+{
+    if right {
+        if survey.nodes <= 64 {
+            if junctions_allowed(rules, survey.junctions) {
+                return survey;
+            }
+            return out_of_range();
         }
-        return value == 0;
+        return out_of_range();
     }
-    false
-}
-
-// The user nodes of a position.
-fn size_of(value: u8) -> u8
-    ensures { λ r. ⌜ r ≡ sizeOf value ⌝ }
-{
-    if value == 0 {
-        return 1;
-    }
-    value
-}
-
-// The junctions of a position.
-fn junctions_of(value: u8) -> u8
-    ensures { λ r. ⌜ r ≡ junctionsOf value ⌝ }
-{
-    if value == 0 {
-        return 0;
-    }
-    1
+    out_of_range()
 }
 
 impl Plan {
-    // Whether the first `positions` values are in range.
-    fn values_in_range(self, positions: usize) -> bool
-        requires { ⌜ positions ≤ 16 ⌝ }
-        ensures { λ r. ⌜ r ≡ every (placeInRange self) positions ⌝ }
-    {
-        let mut i = 0;
-        while i < positions {
-            if value_in_range(self.rules, self.values[i]) {
-                i += 1;
-            } else {
-                return false;
-            }
-        }
-        true
-    }
-
     // Whether rules, locks and the number of positions are in range.
     fn heads_in_range(self) -> bool
         ensures { λ r. ⌜ r ≡ headsInRange self ⌝ }
@@ -95,64 +83,39 @@ impl Plan {
         positions <= 16
     }
 
+    // Whether every value of the plan is in its range, its user nodes and its junctions; 0 of each where it is not.
+    pub fn survey(self) -> Survey
+        ensures { λ r. ⌜ r ≡ planSurvey self ⌝ }
+    {
+        if self.heads_in_range() {
+            let values = self.values;
+            let survey = positions::survey_of(values, self.positions);
+            return allowed(survey.right, self.rules, survey);
+        }
+        out_of_range()
+    }
+
     // Whether every value of the plan is in its range.
     pub fn in_range(self) -> bool
         ensures { λ r. ⌜ r ≡ inRange self ⌝ }
     {
-        if self.heads_in_range() {
-            let positions = self.positions;
-            return self.values_in_range(positions as usize);
-        }
-        false
-    }
-
-    // The user nodes of the first positions.
-    fn nodes_before(self, positions: usize) -> u8
-        requires { ⌜ (positions ≤ 16) × (every (placeInRange self) positions ≡ true) ⌝ }
-        ensures { λ r. ⌜ r ≡ nodesBefore self positions ⌝ }
-    {
-        let mut nodes: u8 = 0;
-        let mut i = 0;
-        while i < positions {
-            nodes += size_of(self.values[i]);
-            i += 1;
-        }
-        nodes
-    }
-
-    // The junctions of the first positions.
-    fn junctions_before(self, positions: usize) -> u8
-        requires { ⌜ (positions ≤ 16) × (every (placeInRange self) positions ≡ true) ⌝ }
-        ensures { λ r. ⌜ r ≡ junctionsBefore self positions ⌝ }
-    {
-        let mut junctions: u8 = 0;
-        let mut i = 0;
-        while i < positions {
-            junctions += junctions_of(self.values[i]);
-            i += 1;
-        }
-        junctions
+        let survey = self.survey();
+        survey.right
     }
 
     // The number of user nodes; 0 for a plan out of range.
     pub fn nodes(self) -> u8
         ensures { λ r. ⌜ r ≡ nodeCount self ⌝ }
     {
-        if self.in_range() {
-            let positions = self.positions;
-            return self.nodes_before(positions as usize);
-        }
-        0
+        let survey = self.survey();
+        survey.nodes as u8
     }
 
     // The number of junctions; 0 for a plan out of range.
     pub fn junctions(self) -> u8
         ensures { λ r. ⌜ r ≡ junctionCount self ⌝ }
     {
-        if self.in_range() {
-            let positions = self.positions;
-            return self.junctions_before(positions as usize);
-        }
-        0
+        let survey = self.survey();
+        survey.junctions as u8
     }
 }

@@ -123,10 +123,11 @@ all-refused state limit e =
     let refuses = step-refused state e in
     all-same state (replicate nodePlaces quiet) refl (refused-silent state e) (ap (λ (t : StepTold). t .state) refuses) (ap (λ (t : StepTold). t .events) refuses) limit
 
--- where the loop stands: 13 does not refuse the state, the plan has this many nodes, the steps fit 16 bits, and what is left to
--- do leads to what was asked
+-- where the loop stands: 13 does not refuse the state, the plan is the one at the start and has this many nodes, the steps fit 16 bits, and what is
+-- left to do leads to what was asked
 pub record Going (start : State) (limit count : ℕ) (now : Advanced) (left : ℕ) : Type 0 where
   pub pass : sound (now .state) ≡ true
+  pub plan : now .state .plan ≡ start .plan
   pub nodes : nodeCount (now .state .plan) ≡ count
   pub room : now .done + left ≤ 65535
   pub leads : goingOn left now ≡ advancing limit start
@@ -137,7 +138,7 @@ pub going-start : (now : Advanced) (start : State) (limit count : ℕ) → now �
 unfolding advancing
 going-start now start limit count e pass nodes most =
     subst (λ (a : Advanced). Going (a .state) limit count a limit) (sym e)
-    (record { pass = pass; nodes = sym nodes; room = omega arith; leads = all-left limit start (replicate nodePlaces quiet) refl })
+    (record { pass = pass; plan = refl; nodes = sym nodes; room = omega arith; leads = all-left limit start (replicate nodePlaces quiet) refl })
 
 -- a test leaves at most what it leaves where it holds
 at-most-left : (b : Bool) (left : ℕ) → cond b left 0 ≤ left
@@ -155,6 +156,7 @@ going-on start limit count left left′ now next b g l e s t =
     let more : next .done ≡ now .done + 1 = ap (λ (a : Advanced). a .done) e in
     record {
       pass = ap (λ (a : Advanced). sound (a .state)) e ∙ step-keeps-sound (now .state) (g .pass);
+      plan = ap (λ (a : Advanced). a .state .plan) e ∙ stepping-plan (now .state) ∙ g .plan;
       nodes = ap (λ (a : Advanced). nodeCount (a .state .plan)) e ∙ ap nodeCount (stepping-plan (now .state)) ∙ g .nodes;
       room = omega (arith, g .room, at-most-left b (left - 1));
       leads = ap₂ goingOn (t ∙ ap (λ (b : Bool). cond b (left - 1) 0) same) e ∙ one-fewer left now l ∙ g .leads;

@@ -1,7 +1,7 @@
 -- Laws of the state: on which places an action may fall, what passing 13 says, and what the step and an action of a state that
 -- passes are.
 use Prim.Native.Nat.{ℕ, _≤_, _<_}
-use mathlib.Core.Path.{_≡_, refl}
+use mathlib.Core.Path.{_≡_, refl, sym, ap, _∙_}
 use mathlib.Core.Bool.{Bool, true, false, cond, not, _&&_}
 use native.Mathlib.Omega.{arith}
 use lib.Dec.{eqb, leb, ltb}
@@ -12,8 +12,9 @@ use Rattle.lists.proofs.Laws.{and-left, and-right, every-at}
 use Rattle.lists.proofs.Tests.{and-both, by-test}
 use Rattle.cars.specs.Cars.{isNode}
 use Rattle.plan.specs.declared.Plan.{Plan}
-use Rattle.plan.specs.Plan.{inRange, nodeCount, junctionCount}
-use Rattle.plan.proofs.Laws.{nodes-count-most, junctions-count-most}
+use Rattle.positions.specs.declared.Survey.{Survey}
+use Rattle.plan.specs.Plan.{inRange, nodeCount, junctionCount, planSurvey}
+use Rattle.plan.proofs.Laws.{nodes-most}
 use Rattle.acts.specs.declared.Action.{Action}
 use Rattle.acts.specs.Actions.{nodeNumber}
 use Rattle.usernode.specs.Sound.{nodeSound}
@@ -25,20 +26,6 @@ use Rattle.ring.specs.Sound.{zeroPasses, nodePasses, junctionPasses, sou
 use Rattle.ring.specs.Actions.{actionNumber, actedState, handedBack, acting}
 use Rattle.lists.specs.Refusal.{refusedIf}
 use Rattle.ring.specs.Step.{StepTold, nextState, stepNumber, refused, done, moving, stepping}
-
--- what is 0 unless a test holds is bounded by its bound where the test holds
-bounded : (b : Bool) (n most : ℕ) → (b ≡ true → cond b n 0 ≤ most) → cond b n 0 ≤ most
-bounded true n most holds = holds refl
-bounded false n most holds = omega arith
-
--- any plan has at most 64 user nodes and 16 junctions: one out of range has none
-pub nodes-most : (plan : Plan) → nodeCount plan ≤ 64
-unfolding nodeCount
-nodes-most plan = bounded (inRange plan) _ 64 (nodes-count-most plan)
-
-pub junctions-most : (plan : Plan) → junctionCount plan ≤ 16
-unfolding junctionCount
-junctions-most plan = bounded (inRange plan) _ 16 (junctions-count-most plan)
 
 -- the number of a node is 1 to U
 pub node-number : (nodes node : ℕ) → isNode nodes node ≡ true → (1 ≤ node) × (node ≤ nodes)
@@ -100,6 +87,22 @@ passed state e =
 pub passes : (state : State) → Passed state → sound state ≡ true
 unfolding sound
 passes state p = and-both (and-both (and-both (p .plan) (p .zeroth)) (p .nodes)) (p .junctions)
+
+-- 13 by the survey of the plan: where that is right, the parts
+pub sound-right : (state : State) (survey : Survey) (parts : Bool) → survey ≡ planSurvey (state .plan) → survey .right ≡ true
+    → parts ≡ (zeroPasses state (survey .nodes) && every (nodePasses state (survey .nodes)) (survey .nodes) && every (junctionPasses state (survey .nodes)) (survey .junctions))
+    → parts ≡ sound state
+unfolding sound planSurvey
+sound-right state survey parts e r p =
+    let plan : inRange (state .plan) ≡ true = sym (ap (λ (s : Survey). s .right) e) ∙ r in
+    p ∙ ap (λ (s : Survey). zeroPasses state (s .nodes) && every (nodePasses state (s .nodes)) (s .nodes) && every (junctionPasses state (s .nodes)) (s .junctions)) e
+    ∙ rw plan refl
+
+pub sound-wrong : (state : State) (survey : Survey) → survey ≡ planSurvey (state .plan) → survey .right ≡ false → false ≡ sound state
+unfolding sound planSurvey
+sound-wrong state survey e r =
+    let plan : inRange (state .plan) ≡ false = sym (ap (λ (s : Survey). s .right) e) ∙ r in
+    rw plan refl
 
 -- the plan is in range, and the queue has at most 65 cars
 pub sound-plan : (state : State) → sound state ≡ true → inRange (state .plan) ≡ true

@@ -1,5 +1,6 @@
 pub mod Laws
-pub mod Walking
+pub mod Routed
+pub mod Going
 pub mod Opened
 pub mod Sound
 pub mod Theorems

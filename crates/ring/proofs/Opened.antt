@@ -5,7 +5,9 @@ use Rattle.lists.specs.Loops.{every, some, total, iterate, inOrder}
 use Rattle.lists.specs.Refusal.{refusedIf}
 use Rattle.words.specs.Words.{has, withLock, withoutLock, least, allBelow}
 use Rattle.cars.specs.Cars.{multiring, releaseNeedsIdle, isNode, names, noticeNames, carNames, flagAfter}
-use Rattle.plan.specs.Plan.{valueAt, valueInRange, placeInRange, headsInRange, inRange, sizeOf, junctionsOf, nodesBefore, junctionsBefore, nodeCount, junctionCount}
+use Rattle.positions.specs.Ring.{nodesIn, junctionsIn, usersOnly}
+use Rattle.positions.specs.Reading.{counted, joined, positionAt, wrong, behindUser, behindJunction, onward, positions, reading, mainRing}
+use Rattle.plan.specs.Plan.{headsInRange, positionsRead, ringOf, junctionsAllowed, inRange, nodeCount, junctionCount}
 use Rattle.acts.specs.Actions.{wishNumber, releaseNumber, laterNumber, needsIdle, nodeNumber, busyWith, released, acted}
 use Rattle.usernode.specs.Astray.{waitsReqp, waitsDov, unready, astray}
 use Rattle.usernode.specs.Node.{had, isIdle, wantsTrain}
@@ -23,7 +25,7 @@ use Rattle.ring.specs.Actions.{actionNumber, actedState, handedBack, act
 use Rattle.ring.specs.Sound.{zeroPasses, nodePasses, junctionPasses, sound}
 use Rattle.ring.specs.State.{restNode, restJunction, startOf, smallPlan, startState, nodeOf}
 use Rattle.ring.specs.Step.{nextState, stepNumber, refused, done, moving, stepping}
-use Rattle.ring.specs.Walk.{quiet, nodeHere, junctionHere, turnHere, onNode, wanted, intoSubring, outOfSubring, onJunction, onPosition, setOut, walk}
+use Rattle.ring.specs.Walk.{quiet, nodeHere, junctionHere, turnHere, onNode, wanted, enters, leaves, along, setOut, walk}
 use Rattle.ring.specs.Advance.{noEvent, silent, oneMore, advancing}
 
 unfoldable pub of-lists : ℕ
@@ -39,7 +41,7 @@ unfolding multiring releaseNeedsIdle isNode names noticeNames carNames flagAfter
 of-cars = 0
 
 unfoldable pub of-plan : ℕ
-unfolding valueAt valueInRange placeInRange headsInRange inRange sizeOf junctionsOf nodesBefore junctionsBefore nodeCount junctionCount
+unfolding nodesIn junctionsIn usersOnly counted joined positionAt wrong behindUser behindJunction onward positions reading mainRing headsInRange positionsRead ringOf junctionsAllowed inRange nodeCount junctionCount
 of-plan = 0
 
 unfoldable pub of-usernode : ℕ
@@ -55,5 +57,5 @@ unfolding within outside ifTrain onGotp onDidv inTour failing junctionRule junct
 of-junction = 0
 
 unfoldable pub of-ring : ℕ
-unfolding actionNumber actedState handedBack acting zeroPasses nodePasses junctionPasses sound restNode restJunction startOf smallPlan startState nodeOf nextState stepNumber refused done moving stepping quiet nodeHere junctionHere turnHere onNode wanted intoSubring outOfSubring onJunction onPosition setOut walk noEvent silent oneMore advancing
+unfolding actionNumber actedState handedBack acting zeroPasses nodePasses junctionPasses sound restNode restJunction startOf smallPlan startState nodeOf nextState stepNumber refused done moving stepping quiet nodeHere junctionHere turnHere onNode wanted enters leaves along setOut walk noEvent silent oneMore advancing
 of-ring = 0

@@ -3,5 +3,6 @@ pub mod Sound
 pub mod Actions
 pub mod Walk
 pub mod Step
+pub mod Trip
 pub mod Advance
 pub mod Theorems

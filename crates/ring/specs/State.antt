@@ -4,7 +4,7 @@ use mathlib.Core.Bool.{cond, false}
 use lib.ListN.{getD, replicate}
 use Rattle.cars.specs.declared.Car.the-variants.{Idle}
 use Rattle.plan.specs.declared.Plan.{Plan}
-use Rattle.plan.specs.Plan.{positionPlaces, nodePlaces, junctionPlaces, inRange, planNumber}
+use Rattle.plan.specs.Plan.{valuePlaces, nodePlaces, junctionPlaces, inRange, planNumber}
 use Rattle.usernode.specs.declared.Node.{Node}
 use Rattle.usernode.specs.declared.Activity.the-variants.{Idle as Resting}
 use Rattle.zeronode.specs.Rules.{zeroStart}
@@ -33,7 +33,7 @@ startOf plan =
 
 -- "plan 1, 1, 1, 0": rules, locks, positions, their values
 unfoldable pub smallPlan : Plan
-smallPlan = record { rules = 1; locks = 1; positions = 1; values = replicate positionPlaces 0 }
+smallPlan = record { rules = 1; locks = 1; positions = 1; values = replicate valuePlaces 0 }
 
 -- 4: "a start state asked for such a plan is refused too, with the start state of plan 1, 1, 1, 0 beside it"
 unfoldable pub startState : Plan → State

@@ -1,13 +1,13 @@
 -- 01, "One step": "All nodes act at once on the cars sent before the step, each taking its predecessor's." The walk goes through
--- the senders in travelling order: position by position, a junction being its subring car, its nodes, its main car.
+-- the senders in travelling order (docs/NESTED.md, "Who takes whose car"), by recursion on the plan's ring.
 use Prim.Native.Nat.{ℕ, _+_}
-use mathlib.Core.Bool.{Bool, cond, false, _||_}
+use mathlib.Core.Bool.{Bool, true, false, _||_}
 use mathlib.Core.List.{List}
-use lib.Dec.{eqb}
 use lib.ListN.{getD, set, replicate}
-use Rattle.lists.specs.Loops.{some, iterate, inOrder}
+use Rattle.lists.specs.Loops.{some}
 use Rattle.cars.specs.declared.Car.{Car}
-use Rattle.plan.specs.Plan.{nodePlaces, valueAt}
+use Rattle.positions.specs.Ring.{Ring, noMore, userNode, aJunction, nodesIn}
+use Rattle.plan.specs.Plan.{nodePlaces, ringOf}
 use Rattle.usernode.specs.declared.Node.{Node}
 use Rattle.turns.specs.declared.Turn.{Turn}
 use Rattle.turns.specs.declared.Event.the-variants.{Nothing}
@@ -20,7 +20,7 @@ use Rattle.ring.specs.declared.State.{State}
 use Rattle.ring.specs.declared.Happening.{Happening}
 use Rattle.ring.specs.State.{restNode, restJunction}
 
--- the walk: the nodes passed, the junctions turned, the car sent by the last sender met, whether an own car met a node that was not
+-- the walk: the nodes passed, the junctions entered, the car sent by the last sender met, whether an own car met a node that was not
 -- ready for it; and nodes, events and junctions as the step leaves them
 pub record Walk : Type 0 where
   pub passed : ℕ
@@ -59,16 +59,16 @@ onNode state walk =
       junctions = walk .junctions;
     }
 
--- "some node of its subring wants a train (.. before the step)": the nodes at this place and behind it, as many as there are
+-- "some node within wants a train (.. before the step)": the nodes at this place and behind it, as many as there are
 unfoldable pub wanted : State → ℕ → ℕ → Bool
 wanted state place size = some (λ k. wantsTrain (getD (state .nodes) (place + k) restNode)) size
 
--- into a subring: its first node takes the junction's subring car
-unfoldable pub intoSubring : State → Walk → Walk
-intoSubring state walk =
+-- into a junction: the first sender on its subring takes the junction's subring car
+unfoldable pub enters : State → Walk → Walk
+enters state walk =
     record {
       passed = walk .passed;
-      turned = walk .turned;
+      turned = walk .turned + 1;
       last = junctionHere state walk .subring;
       astray = walk .astray;
       nodes = walk .nodes;
@@ -76,29 +76,27 @@ intoSubring state walk =
       junctions = walk .junctions;
     }
 
--- out of a subring: the junction's turn, with the arrival on the main side and the last car of the subring; its main car
--- comes next
-unfoldable pub outOfSubring : State → ℕ → Walk → Walk → Walk
-outOfSubring state size before inside =
+-- out of a junction with this many user nodes within, `inner` or on the main ring: its turn, with the arrival on the main side and the last car
+-- of the subring; its main car comes next
+unfoldable pub leaves : State → Bool → ℕ → Walk → Walk → Walk
+leaves state inner size before inside =
     record {
       passed = inside .passed;
-      turned = before .turned + 1;
+      turned = inside .turned;
       last = junctionHere state before .main;
       astray = inside .astray;
       nodes = inside .nodes;
       events = inside .events;
-      junctions = set (before .junctions) (before .turned)
-          (junctionTurn false (before .passed) (before .passed + size) (wanted state (before .passed) size) (before .last) (inside .last) (junctionHere state before));
+      junctions = set (inside .junctions) (before .turned)
+          (junctionTurn inner (before .passed) (before .passed + size) (wanted state (before .passed) size) (before .last) (inside .last) (junctionHere state before));
     }
 
--- a junction with this many nodes on its subring
-unfoldable pub onJunction : State → ℕ → Walk → Walk
-onJunction state size walk = outOfSubring state size walk (iterate (onNode state) size (intoSubring state walk))
-
--- "Value 0 is a user node on the main ring; 1 to 4 is a junction with that many user nodes on its subring."
-unfoldable pub onPosition : State → ℕ → Walk → Walk
-onPosition state place walk =
-    cond (eqb (valueAt (state .plan) place) 0) (onNode state walk) (onJunction state (valueAt (state .plan) place) walk)
+-- along a ring, the main ring or (`inner`) a subring: a user node has its turn; a junction is its subring car, the senders on its subring, its main car
+unfoldable pub along : State → Bool → Ring → Walk → Walk
+along state inner noMore walk = walk
+along state inner (userNode rest) walk = along state inner rest (onNode state walk)
+along state inner (aJunction subring rest) walk =
+    along state inner rest (leaves state inner (nodesIn subring) walk (along state true subring (enters state walk)))
 
 -- the first position takes the zero node's car
 unfoldable pub setOut : State → Walk
@@ -113,6 +111,6 @@ setOut state =
       junctions = state .junctions;
     }
 
--- all positions of the plan; "The zero node follows the last position": it takes what the walk ends with
+-- along the plan's ring; "The zero node follows the last position": it takes what the walk ends with
 unfoldable pub walk : State → Walk
-walk state = inOrder (onPosition state) (state .plan .positions) (setOut state)
+walk state = along state false (ringOf (state .plan)) (setOut state)

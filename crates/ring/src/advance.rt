@@ -4,6 +4,7 @@ ghost use mathlib.Core.Bool.{true};
 ghost use Prim.Native.Nat.{_+_, _≤_, _<_};
 ghost use lib.ListN.{getD, replicate};
 ghost use Rattle.lists.specs.Loops.{every};
+ghost use Rattle.route.specs.Route.{routeOf};
 ghost use Rattle.ring.specs.Walk.{quiet};
 ghost use Rattle.ring.specs.Sound.{sound};
 ghost use Rattle.ring.specs.Step.{stepping};
@@ -12,6 +13,7 @@ use crate::Advanced;
 use crate::Happening;
 use crate::State;
 use plan::NODES;
+use route::LEGS;
 use turns::Event;
 
 // Whether none of the first `count` nodes has an event.
@@ -33,13 +35,13 @@ fn is_silent(events: [Happening; NODES], count: usize) -> bool
 }
 
 impl Advanced {
-    // One step more, of a state that 13 does not refuse.
-    fn one_more(self) -> Advanced
-        requires { ⌜ (sound (self .state) ≡ true) × (self .done < 65535) ⌝ }
+    // One step more, of a state that 13 does not refuse, along the route of its plan.
+    fn one_more(self, route: &[u16]) -> Advanced
+        requires { ⌜ (sound (self .state) ≡ true) × (now route ≡ routeOf (self .state .plan .values) (self .state .plan .positions)) × (self .done < 65535) ⌝ }
         ensures { λ r. ⌜ r ≡ record { state = stepping (self .state) .state; events = stepping (self .state) .events; done = self .done + 1 } ⌝ }
     {
         let state = self.state;
-        let stepped = state.moving();
+        let stepped = state.moving(route);
         let next = stepped.state;
         let events = stepped.events;
         Advanced {
@@ -65,17 +67,20 @@ impl State {
         }
     }
 
-    // Steps of a state that 13 does not refuse: each leaves such a state, so 13 is tested no more.
+    // Steps of a state that 13 does not refuse: each leaves such a state, so 13 is tested no more, and the route is laid once.
     fn advance_sound(self, limit: u16) -> Advanced
         requires { ⌜ sound self ≡ true ⌝ }
         ensures { λ r. ⌜ r ≡ advancing limit self ⌝ }
     {
         let plan = self.plan;
         let count = plan.nodes() as usize;
+        let values = plan.values;
+        let mut route = [0u16; LEGS];
+        let laid = route::lay_route(values, plan.positions, &mut route);
         let mut now = self.unmoved(0);
         let mut left = limit;
         while 0 < left {
-            now = now.one_more();
+            now = now.one_more(&route[..laid]);
             let events = now.events;
             if is_silent(events, count) {
                 left -= 1;

@@ -3,6 +3,7 @@ ghost use mathlib.Core.Path.{_≡_};
 ghost use Rattle.ring.specs.State.{planAnswerNumber};
 ghost use Rattle.ring.specs.Step.{stepAnswerNumber};
 use acts::ActionAnswer;
+use cars::Car;
 use junction::Junction;
 use plan::JUNCTIONS;
 use plan::NODES;
@@ -13,10 +14,18 @@ use zeronode::ZeroNode;
 
 mod actions;
 mod advance;
-mod route;
 mod soundness;
 mod starting;
 mod steps;
+mod walking;
+
+// A junction that a step has entered: the car that came to it, how many nodes stand before it, and whether one of those on the ring on which it stands
+// wants a train.
+struct Entered {
+    arrival: Car,
+    low: u8,
+    wants: bool,
+}
 
 // The plan and every sender. Node n stands at place n - 1, the k-th junction in travelling order at place k - 1; places
 // beyond the plan and the queue's count are not in use.

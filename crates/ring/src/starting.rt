@@ -8,8 +8,8 @@ use cars::Car;
 use junction::Junction;
 use plan::JUNCTIONS;
 use plan::NODES;
-use plan::POSITIONS;
 use plan::Plan;
+use positions::VALUES;
 use usernode::Activity;
 use usernode::Node;
 use zeronode::ZeroNode;
@@ -48,7 +48,7 @@ fn small_plan() -> Plan
         rules: 1,
         locks: 1,
         positions: 1,
-        values: [0u8; POSITIONS],
+        values: [0u8; VALUES],
     }
 }
 

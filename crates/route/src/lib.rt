@@ -8,6 +8,9 @@ use positions::VALUES;
 
 mod laying;
 
+// The most legs that the route of a plan in range has: 64 user nodes, and 144 junctions with two each.
+pub const LEGS: usize = 352;
+
 // A leg of the route: a user node, into a junction or out of it (true: an inner one), each by its place; or no leg.
 pub enum Leg {
     Nowhere,

@@ -1,5 +1,5 @@
 -- The promises of the model leave one answer: each names the answer itself, or what tells answers apart (Apart).
-use Rattle.settled.specs.Model.{Words, Cars, PlanOf, UserNode, Turns, Acts, ZeroNodeOf, Tours, JunctionOf, Ring}
+use Rattle.settled.specs.Model.{Words, Cars, Positions, Route, PlanOf, UserNode, Turns, Acts, ZeroNodeOf, Tours, JunctionOf, Ring}
 use Rattle.settled.proofs.Apart.{same, answer-apart, start-apart, action-apart, step-apart}
 
 pub words : Words
@@ -22,9 +22,26 @@ cars =
       flag-after = (λ a. tt, λ a x y d e. same);
     }
 
+pub positions : Positions
+positions =
+    record {
+      position-at = λ κ. (λ a. tt, λ a x y d e. same);
+      survey-of = (λ a. tt, λ a x y d e. same);
+      ends-exactly = λ κ. (λ a. tt, λ a x y d e. same);
+    }
+
+pub route : Route
+route =
+    record {
+      leg-of = (λ a. tt, λ a x y d e. same);
+      lay-route-row = λ κ a x y d e p q. same (p .1) (q .1);
+      lay-route = λ κ. (λ a. tt, λ a x y d e p q. same (p .0) (q .0));
+    }
+
 pub plan-of : PlanOf
 plan-of =
     record {
+      survey = (λ a. tt, λ a x y d e. same);
       in-range = (λ a. tt, λ a x y d e. same);
       nodes = (λ a. tt, λ a x y d e. same);
       junctions = (λ a. tt, λ a x y d e. same);

@@ -9,6 +9,12 @@ use Rattle.cars.proofs.release_needs_idle.Reads as release-needs-idle
 use Rattle.cars.proofs.is_node.Reads as is-node
 use Rattle.cars.proofs.car_names.Reads as car-names
 use Rattle.cars.proofs.flag_after.Reads as flag-after
+use Rattle.positions.proofs.position_at.Reads as position-at
+use Rattle.positions.proofs.survey_of.Reads as survey-of
+use Rattle.positions.proofs.ends_exactly.Reads as ends-exactly
+use Rattle.route.proofs.leg_of.Reads as leg-of
+use Rattle.route.proofs.lay_route.Reads as lay-route
+use Rattle.plan.proofs.Plan.survey.Reads as survey
 use Rattle.plan.proofs.Plan.in_range.Reads as in-range
 use Rattle.plan.proofs.Plan.nodes.Reads as nodes
 use Rattle.plan.proofs.Plan.junctions.Reads as junctions
@@ -47,7 +53,9 @@ use Rattle.ring.proofs.State.release.Reads as release
 use Rattle.ring.proofs.State.force.Reads as force
 use Rattle.ring.proofs.State.step.Reads as step
 use Rattle.ring.proofs.State.advance.Reads as advance
-use Rattle.settled.specs.Settled.{Settled}
+use contract.Lifetimes.{Lfts}
+use denote.Ref.{now}
+use Rattle.settled.specs.Settled.{OneTold, Settled}
 
 -- words
 pub record Words : Type 0 where
@@ -65,8 +73,21 @@ pub record Cars : Type 0 where
   pub car-names : Settled (car-names.Asked tt) (car-names.Learnt tt)
   pub flag-after : Settled (flag-after.Asked tt) (flag-after.Learnt tt)
 
+-- positions
+pub record Positions : Type 0 where
+  pub position-at : (κ : Lfts 1) → Settled (position-at.Asked κ) (position-at.Learnt κ)
+  pub survey-of : Settled (survey-of.Asked tt) (survey-of.Learnt tt)
+  pub ends-exactly : (κ : Lfts 1) → Settled (ends-exactly.Asked κ) (ends-exactly.Learnt κ)
+
+-- route
+pub record Route : Type 0 where
+  pub leg-of : Settled (leg-of.Asked tt) (leg-of.Learnt tt)
+  pub lay-route-row : (κ : Lfts 1) → OneTold (λ r e. now (e .1 .1 .0)) (lay-route.Learnt κ)
+  pub lay-route : (κ : Lfts 1) → Settled (lay-route.Asked κ) (lay-route.Learnt κ)
+
 -- plan
 pub record PlanOf : Type 0 where
+  pub survey : Settled (survey.Asked tt) (survey.Learnt tt)
   pub in-range : Settled (in-range.Asked tt) (in-range.Learnt tt)
   pub nodes : Settled (nodes.Asked tt) (nodes.Learnt tt)
   pub junctions : Settled (junctions.Asked tt) (junctions.Learnt tt)

@@ -1,17 +1,80 @@
 // Writing a row to standard output.
 use crate::seen;
 
-// The first positions of a plan's number, as the paper writes them but for the last mark.
+// Where the writing of positions stands: the lists that are open with the positions each has still to come, 8 bits each, the innermost
+// lowest; the mark that stands before the next position; whether the next value is the count of a list.
+struct Written {
+    open: u64,
+    mark: u8,
+    counts: bool,
+}
+
+// The innermost list is closed where nothing of it is to come: it was one position of the list around it.
+fn closed(open: u64) -> u64 {
+    let around = open >> 8u64;
+    if 0 < around {
+        if open % 256 == 0 {
+            io::write_all(1, b"]");
+            return around - 1;
+        }
+    }
+    open
+}
+
+// A list is opened: the mark before it, and the one before its first position.
+fn list_begun(open: u64, mark: u8) -> Written {
+    let bytes = [mark];
+    io::write_all(1, &bytes);
+    Written {
+        open: open,
+        mark: b'[',
+        counts: true,
+    }
+}
+
+// A position that is no list. It may be the last one of three lists.
+fn position(open: u64, mark: u8, value: u64) -> Written {
+    let bytes = [mark, b'0' + (value % 8) as u8];
+    io::write_all(1, &bytes);
+    Written {
+        open: closed(closed(closed(open))),
+        mark: b',',
+        counts: false,
+    }
+}
+
+// One value more; where no position is to come, nothing.
+fn value_written(written: Written, value: u64) -> Written {
+    let open = written.open;
+    if written.counts {
+        return Written {
+            open: (open << 8u64) | value,
+            mark: written.mark,
+            counts: false,
+        };
+    }
+    if open == 0 {
+        return written;
+    }
+    if value == 5 {
+        return list_begun(open, written.mark);
+    }
+    position(open - 1, written.mark, value)
+}
+
+// The positions of a plan's number, as the paper writes them but for the last mark; a list stands in square brackets.
 fn positions(plan: u64) {
-    let mut left = (plan >> 12u64) % 64;
+    let mut written = Written {
+        open: (plan >> 12u64) % 64,
+        mark: b'<',
+        counts: false,
+    };
     let mut values = plan >> 18u64;
-    let mut mark = b'<';
-    while 0 < left {
-        let bytes = [mark, b'0' + (values % 8) as u8];
-        io::write_all(1, &bytes);
-        mark = b',';
+    let mut i: u8 = 0;
+    while i < 7 {
+        written = value_written(written, values % 64);
         values = values >> 6u64;
-        left -= 1;
+        i += 1;
     }
 }
 

@@ -1,5 +1,5 @@
 -- Where a step gives a user node no event, the locks that the node holds and those that it is letting go stay as they were.
-use Prim.Native.Nat.{ℕ, zero, suc, _≤_, _<_}
+use Prim.Native.Nat.{ℕ, _≤_, _<_}
 use mathlib.Core.Path.{_≡_, refl, _∙_, sym, ap, ap₂, subst}
 use mathlib.Core.Bool.{Bool, true, false, cond, _||_}
 use mathlib.Core.List.{List}
@@ -8,10 +8,10 @@ use lib.Dec.{eqb, ltb}
 use lib.ListN.{getD, set, length, length-set, length-replicate, List·getD-eq-default}
 use lib.Seq.{getD-set-same, getD-set-other, set-out}
 use borrow.Author.Tests.{eqb-true, eqb-false, ltb-true, ltb-false}
-use Rattle.lists.specs.Loops.{iterate, inOrder}
 use Rattle.words.specs.Words.{has}
 use Rattle.cars.specs.declared.Car.{Car}
-use Rattle.plan.specs.Plan.{valueAt}
+use Rattle.positions.specs.Ring.{Ring, noMore, userNode, aJunction}
+use Rattle.plan.specs.Plan.{ringOf}
 use Rattle.usernode.specs.declared.Node.{Node}
 use Rattle.usernode.specs.declared.Rule.{Rule}
 use Rattle.usernode.specs.declared.Rule.the-variants.{Passes, SendsReqp, SendsDov, SendsDidv, OwnReqp, OwnFailp, FailsReqp, OwnDov, LosesLock}
@@ -24,7 +24,7 @@ use Rattle.ring.specs.declared.State.{State}
 use Rattle.ring.specs.declared.Happening.{Happening}
 use Rattle.ring.specs.State.{restNode}
 use Rattle.ring.specs.Sound.{sound}
-use Rattle.ring.specs.Walk.{Walk, quiet, nodeHere, turnHere, onNode, intoSubring, outOfSubring, onJunction, onPosition, setOut, walk}
+use Rattle.ring.specs.Walk.{Walk, quiet, nodeHere, turnHere, onNode, enters, leaves, along, setOut, walk}
 use Rattle.ring.specs.Step.{StepTold, nextState, stepNumber, refused, done, moving, stepping}
 
 -- a node that holds and is letting go what it held and was letting go before
@@ -108,40 +108,32 @@ keeps-node state w k =
           (turn-keeps _ _ _ _) place below (k .words place below);
     }
 
--- past the user nodes of a subring
-keeps-nodes : (state : State) (n : ℕ) (w : Walk) → Keeps state w → Keeps state (iterate (onNode state) n w)
-unfolding iterate
-keeps-nodes state zero w k = k
-keeps-nodes state (suc n) w k = keeps-node state _ (keeps-nodes state n w k)
+-- along a ring: entering and leaving a junction changes no node and no event
+keeps-along : (state : State) (inner : Bool) (ring : Ring) (w : Walk) → Keeps state w → Keeps state (along state inner ring w)
+unfolding along enters leaves
+keeps-along state inner noMore w k = k
+keeps-along state inner (userNode rest) w k = keeps-along state inner rest (onNode state w) (keeps-node state w k)
+keeps-along state inner (aJunction subring rest) w k =
+    let inside = keeps-along state true subring (enters state w) (record { node-places = k .node-places; event-places = k .event-places; words = k .words }) in
+    keeps-along state inner rest _ (record { node-places = inside .node-places; event-places = inside .event-places; words = inside .words })
 
--- past a position
-keeps-position : (state : State) (place : ℕ) (w : Walk) → Keeps state w → Keeps state (onPosition state place w)
-unfolding onPosition onJunction intoSubring outOfSubring
-keeps-position state place w k = go (eqb (valueAt (state .plan) place) 0)
-  where
-    go : (b : Bool) → Keeps state (cond b (onNode state w) (onJunction state (valueAt (state .plan) place) w))
-    go true = keeps-node state w k
-    go false =
-        let inside = keeps-nodes state (valueAt (state .plan) place) (intoSubring state w)
-        (record { node-places = k .node-places; event-places = k .event-places; words = k .words }) in
-        record { node-places = inside .node-places; event-places = inside .event-places; words = inside .words }
-
--- past so many positions
-keeps-positions : (state : State) (n : ℕ) → Keeps state (inOrder (onPosition state) n (setOut state))
-unfolding inOrder setOut
-keeps-positions state zero = record { node-places = refl; event-places = length-replicate 64 quiet; words = λ place below e. record { held = refl; letting = refl } }
-keeps-positions state (suc n) = keeps-position state n _ (keeps-positions state n)
+-- the whole walk
+keeps-walk : (state : State) → Keeps state (walk state)
+unfolding walk setOut
+keeps-walk state =
+    keeps-along state false (ringOf (state .plan)) (setOut state)
+    (record { node-places = refl; event-places = length-replicate 64 quiet; words = λ place below e. record { held = refl; letting = refl } })
 
 -- a step, refused or done: a place without an event
 pub step-keeps : (state : State) (place : ℕ) → place < 64 → getD (stepping state .events) place quiet .event ≡ Nothing
     → Kept (getD (state .nodes) place restNode) (getD (stepping state .state .nodes) place restNode)
-unfolding stepping moving done refused nextState walk
+unfolding stepping moving done refused nextState
 step-keeps state place below = go (sound state) (eqb (stepNumber state) 0)
   where
     told : Bool → Bool → StepTold
     told a b = cond a (cond b (done state) (refused (stepNumber state) state)) (refused 13 state)
 
     go : (a b : Bool) → KeptAt (state .nodes) (told a b .state .nodes) (told a b .events) place
-    go true true = keeps-positions state (state .plan .positions) .words place below
+    go true true = keeps-walk state .words place below
     go true false = λ e. record { held = refl; letting = refl }
     go false b = λ e. record { held = refl; letting = refl }

@@ -1,7 +1,7 @@
--- Laws of lists and loops: two lists with the same first places, a place put in between, and tests that agree below a number.
+-- Laws of lists: two lists with the same first places, and a place put in between.
 use Prim.Native.Nat.{ℕ, zero, suc, _+_, _≤_, _<_}
 use mathlib.Core.Path.{_≡_, refl, _∙_, sym, ap, ap₂}
-use mathlib.Core.Bool.{Bool, true, false, _&&_}
+use mathlib.Core.Bool.{Bool, true, false}
 use mathlib.Core.List.{List, [], _∷_, _++_}
 use native.Mathlib.Numerals.{add-one}
 use native.Mathlib.Omega.{arith}
@@ -9,13 +9,6 @@ use lib.Dec.{ltb}
 use lib.ListN.{length, getD, take, drop, set}
 use lib.Seq.{getD-take, take-suc-set, take-set-lt, take-all}
 use borrow.Author.Tests.{ltb-true, ltb-false}
-use Rattle.lists.specs.Loops.{every}
-
--- two tests that agree at each place below n
-pub every-same : (f g : ℕ → Bool) (n : ℕ) → ((k : ℕ) → k < n → f k ≡ g k) → every f n ≡ every g n
-unfolding every
-every-same f g zero e = refl
-every-same f g (suc n) e = ap₂ (λ (a b : Bool). a && b) (every-same f g n (λ k l. e k (omega arith))) (e n (omega arith))
 
 module _ {A : Type 0} where
   -- lists whose first n places are the same have the same at each of them

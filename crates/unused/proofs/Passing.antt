@@ -1,13 +1,15 @@
 -- States that are the same in every place in use have plans with the same numbers of nodes and junctions, and 13 refuses both or neither.
 use Prim.Native.Nat.{ℕ, _<_}
 use mathlib.Core.Path.{_≡_, _∙_, ap, ap₂, subst}
-use mathlib.Core.Bool.{Bool, cond, _&&_}
-use lib.Dec.{leb}
+use mathlib.Core.Bool.{Bool, cond, _&&_, _||_}
+use lib.Dec.{eqb, leb}
 use lib.ListN.{getD}
 use Rattle.lists.specs.Loops.{every}
-use Rattle.lists.proofs.Laws.{total-same}
-use Rattle.cars.specs.Cars.{carNames}
-use Rattle.plan.specs.Plan.{valueAt, valueInRange, placeInRange, headsInRange, inRange, sizeOf, junctionsOf, nodesBefore, junctionsBefore, nodeCount, junctionCount}
+use Rattle.lists.proofs.Laws.{every-same}
+use Rattle.cars.specs.Cars.{multiring, carNames}
+use Rattle.positions.specs.Ring.{Ring, nodesIn, junctionsIn}
+use Rattle.positions.specs.Reading.{Reading}
+use Rattle.plan.specs.Plan.{headsInRange, positionsRead, ringOf, junctionsAllowed, inRange, nodeCount, junctionCount}
 use Rattle.usernode.specs.Sound.{nodeSound}
 use Rattle.zeronode.specs.declared.Slot.{Slot}
 use Rattle.zeronode.specs.Rules.{emptySlot}
@@ -17,7 +19,8 @@ use Rattle.ring.specs.declared.State.{State}
 use Rattle.ring.specs.State.{restNode, restJunction}
 use Rattle.ring.specs.Sound.{zeroPasses, nodePasses, junctionPasses, sound}
 use Rattle.unused.specs.Unused.{Agree}
-use Rattle.unused.proofs.Lists.{every-same, same-at}
+use Rattle.unused.proofs.Lists.{same-at}
+use Rattle.unused.proofs.Readings.{read-same}
 
 -- the second state with the first one's rules, locks, positions, zero node's car and count
 abbrev pub like : State → State → State
@@ -41,31 +44,31 @@ by-lists P a b g holds =
 
 -- two states that are the same in every place in use
 module _ (a b : State) (g : Agree a (like a b)) where
-  -- the same value at each position
-  pub value-same : (place : ℕ) → place < a .plan .positions → valueAt (a .plan) place ≡ valueAt (like a b .plan) place
-  unfolding valueAt
-  value-same place below = same-at 0 (a .plan .positions) (a .plan .values) (b .plan .values) (g .plan .values) place below
+  -- the positions are read as the same, in range or not
+  pub positions-same : positionsRead (a .plan) ≡ positionsRead (like a b .plan)
+  unfolding positionsRead
+  positions-same = read-same (a .plan .values) (b .plan .values) (g .plan .places) (a .plan .positions) (g .plan .values)
+
+  pub ring-same : ringOf (a .plan) ≡ ringOf (like a b .plan)
+  unfolding ringOf
+  ring-same = ap (λ (read : Reading). read .ring) positions-same
 
   -- both plans are in range, or neither
   pub range-same : inRange (a .plan) ≡ inRange (like a b .plan)
-  unfolding inRange headsInRange placeInRange
+  unfolding inRange headsInRange junctionsAllowed ringOf
   range-same =
-      ap (λ (t : Bool). headsInRange (a .plan) && t)
-      (every-same _ _ (a .plan .positions) (λ place below. ap (valueInRange (a .plan .rules)) (value-same place below)))
+      ap (λ (read : Reading).
+      headsInRange (a .plan) && read .right && leb (nodesIn (read .ring)) 64 && (multiring (a .plan .rules) || eqb (junctionsIn (read .ring)) 0)) positions-same
 
   -- as many nodes
   pub nodes-same : nodeCount (a .plan) ≡ nodeCount (like a b .plan)
-  unfolding nodeCount nodesBefore
-  nodes-same =
-      ap₂ (λ (t : Bool) (n : ℕ). cond t n 0) range-same
-      (total-same _ _ (a .plan .positions) (λ place below. ap sizeOf (value-same place below)))
+  unfolding nodeCount
+  nodes-same = ap₂ (λ (t : Bool) (ring : Ring). cond t (nodesIn ring) 0) range-same ring-same
 
   -- as many junctions
   pub junctions-same : junctionCount (a .plan) ≡ junctionCount (like a b .plan)
-  unfolding junctionCount junctionsBefore
-  junctions-same =
-      ap₂ (λ (t : Bool) (n : ℕ). cond t n 0) range-same
-      (total-same _ _ (a .plan .positions) (λ place below. ap junctionsOf (value-same place below)))
+  unfolding junctionCount
+  junctions-same = ap₂ (λ (t : Bool) (ring : Ring). cond t (junctionsIn ring) 0) range-same ring-same
 
   -- the same node, and junction, at each place of the plan
   pub node-same : (place : ℕ) → place < nodeCount (a .plan) → getD (a .nodes) place restNode ≡ getD (b .nodes) place restNode

@@ -16,7 +16,7 @@ use Rattle.ring.proofs.Laws.{sound-plan}
 use Rattle.unused.specs.Unused.{ComesBack, SameZero, Agree}
 use Rattle.unused.proofs.Queue.{stays, turn-back, turn-same, overflow-same}
 use Rattle.unused.proofs.Passing.{like, by-lists, sound-same}
-use Rattle.unused.proofs.Walks.{Reach, beside-walk}
+use Rattle.unused.proofs.Walks.{Reached, beside-walk}
 
 -- what comes back of a state that stays as it is
 pub all-back : (state : State) → ComesBack state state
@@ -26,7 +26,7 @@ all-back state = record { plan = refl; nodes = refl; junctions = refl; queue = s
 pub agree-self : (state : State) → Agree state state
 agree-self state =
     record {
-      plan = record { rules = refl; locks = refl; positions = refl; values = refl };
+      plan = record { rules = refl; locks = refl; positions = refl; values = refl; places = refl };
       zeroth = record { car = refl; count = refl; queue = refl; places = refl };
       nodes = refl;
       junctions = refl;
@@ -59,7 +59,7 @@ module _ (a b : State) (g : Agree a (like a b)) where
   -- and whose plans are in range
   module _ (range : inRange (a .plan) ≡ true) where
     -- their walks
-    both : Reach a b g range (a .plan .positions) (walk a) (walk (like a b))
+    both : Reached a b g range (walk a) (walk (like a b))
     both = beside-walk a b g range
 
     -- the same car comes to the zero node

@@ -1,5 +1,6 @@
 -- The sentences of specs/Theorems, proved of every state.
-use Rattle.unused.specs.Theorems.{StepGivesBack, ActionGivesBack, ActionLeavesTheQueue, StepNeverReads, ActionNeverReads}
+use Rattle.unused.specs.Theorems.{StepGivesBack, ActionGivesBack, ActionLeavesTheQueue, StepNeverReads, ActionNeverReads, ValuesInUse}
+use Rattle.unused.proofs.Tight.{values-in-use}
 use Rattle.unused.proofs.Step.{step-back, step-same}
 use Rattle.unused.proofs.Act.{act-back, act-zeroth, act-same}
 
@@ -19,3 +20,6 @@ step-never-reads = step-same
 
 pub action-never-reads : ActionNeverReads
 action-never-reads = act-same
+
+pub the-values-in-use : ValuesInUse
+the-values-in-use = values-in-use

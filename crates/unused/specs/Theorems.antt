@@ -2,11 +2,14 @@
 -- state, made-up ones among them, and of every answer, refusals too. The words are those of Unused.
 use Prim.Native.Nat.{ℕ}
 use mathlib.Core.Path.{_≡_}
+use mathlib.Core.Bool.{true, false}
+use Rattle.plan.specs.declared.Plan.{Plan}
+use Rattle.plan.specs.Plan.{positionsRead, inRange}
 use Rattle.acts.specs.declared.Action.{Action}
 use Rattle.ring.specs.declared.State.{State}
 use Rattle.ring.specs.Actions.{acting}
 use Rattle.ring.specs.Step.{stepping}
-use Rattle.unused.specs.Unused.{ComesBack, Agree}
+use Rattle.unused.specs.Unused.{valuesTaken, ComesBack, Agree}
 
 -- "come back as they were": after a step, and after an action
 abbrev pub StepGivesBack : Type 0
@@ -32,3 +35,7 @@ ActionNeverReads =
     (action : Action) (a b : State) (node lock : ℕ) → Agree a b
     → (acting action a node lock .number ≡ acting action b node lock .number)
     × Agree (acting action a node lock .state) (acting action b node lock .state)
+
+-- and no more values are in use than a plan in range needs: those up to the place behind its last position
+abbrev pub ValuesInUse : Type 0
+ValuesInUse = (plan : Plan) → inRange plan ≡ true → valuesTaken false (plan .positions) (plan .values) ≡ positionsRead plan .place

@@ -1,8 +1,10 @@
 -- 01: "Places for positions, nodes, junctions or queue cars beyond the plan and the count are never read and come back as they were. The queue's head is
 -- at place 0, and a place that the queue gives up becomes idle." The words of it.
-use Prim.Native.Nat.{ℕ, _+_, _≤_, _<_}
+use Prim.Native.Nat.{ℕ, zero, suc, _+_, _≤_, _<_}
 use mathlib.Core.Path.{_≡_}
-use mathlib.Core.List.{List}
+use mathlib.Core.Bool.{Bool, true, false}
+use mathlib.Core.List.{List, [], _∷_}
+use lib.Dec.{eqb}
 use lib.ListN.{length, getD, take, drop}
 use Rattle.plan.specs.declared.Plan.{Plan}
 use Rattle.plan.specs.Plan.{nodeCount, junctionCount}
@@ -38,12 +40,21 @@ pub record ComesBack (before after : State) : Type 0 where
   -- "queue cars"
   pub queue : QueueComesBack (before .zeroth) (after .zeroth)
 
--- two plans that are the same but for the values beyond their positions
+-- the bytes that so many positions take, by the shape alone, whatever counts, levels and rules are: after a byte of 5 (true) the next byte is a count
+-- and brings so many positions more. No more than there are.
+unfoldable pub valuesTaken : Bool → ℕ → List ℕ → ℕ
+valuesTaken opening n [] = 0
+valuesTaken false zero (byte ∷ bytes) = 0
+valuesTaken false (suc n) (byte ∷ bytes) = valuesTaken (eqb byte 5) n bytes + 1
+valuesTaken true n (byte ∷ bytes) = valuesTaken false (n + byte) bytes + 1
+
+-- two plans that are the same but for the values beyond their positions. Both have the same number of places, in the code 352.
 pub record SamePlan (a b : Plan) : Type 0 where
   pub rules : a .rules ≡ b .rules
   pub locks : a .locks ≡ b .locks
   pub positions : a .positions ≡ b .positions
-  pub values : inUse (a .positions) (a .values) ≡ inUse (a .positions) (b .values)
+  pub values : inUse (valuesTaken false (a .positions) (a .values)) (a .values) ≡ inUse (valuesTaken false (a .positions) (a .values)) (b .values)
+  pub places : length (a .values) ≡ length (b .values)
 
 -- two zero nodes that are the same but for the queue's places beyond the count. Both queues have the same number of places, in the code 65.
 pub record SameZero (a b : ZeroNode) : Type 0 where

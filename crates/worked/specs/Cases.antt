@@ -15,10 +15,10 @@ pub record Case : Type 0 where
 
 -- "Ring, U = n", with this many locks; "Multiring, one position of value 1"
 unfoldable pub ringPlan : ℕ → ℕ → Plan
-ringPlan locks nodes = record { rules = 1; locks = locks; positions = nodes; values = replicate 16 0 }
+ringPlan locks nodes = record { rules = 1; locks = locks; positions = nodes; values = replicate 352 0 }
 
 unfoldable pub junctionPlan : Plan
-junctionPlan = record { rules = 2; locks = 1; positions = 1; values = 1 ∷ replicate 15 0 }
+junctionPlan = record { rules = 2; locks = 1; positions = 1; values = 1 ∷ replicate 351 0 }
 
 -- a case that goes on where another ends
 unfoldable pub goesOn : Case → List Move → List Sight → Case

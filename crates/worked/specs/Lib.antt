@@ -1,2 +1,3 @@
 pub mod Watch
 pub mod Cases
+pub mod Nested

@@ -1,5 +1,5 @@
 -- What is seen of a run of the definitions: a list of moves from a plan's start state, and everything that happens, by step.
-use Prim.Native.Nat.{ℕ, zero, suc, _+_}
+use Prim.Native.Nat.{ℕ, zero, suc, _+_, _-_}
 use mathlib.Core.Bool.{Bool, true, false, cond, not, _&&_}
 use mathlib.Core.List.{List, [], _∷_, _++_}
 use lib.Dec.{eqb}
@@ -115,3 +115,17 @@ watch (act action node lock ∷ moves) done state =
 -- from the start
 unfoldable pub run : Plan → List Move → List Sight
 run plan moves = sight (isToken (startState plan .zeroth .car)) (at 0 token) ++ watch moves 0 (startState plan)
+
+-- where moves lead to
+unfoldable pub stepsOn : ℕ → State → State
+stepsOn zero state = state
+stepsOn (suc n) state = stepsOn n (stepping state .state)
+
+unfoldable pub leadsTo : List Move → State → State
+leadsTo [] state = state
+leadsTo (steps n ∷ moves) state = leadsTo moves (stepsOn n state)
+leadsTo (act action node lock ∷ moves) state = leadsTo moves (acting action state node lock .state)
+
+-- the car that a junction, by its number, then sends along the ring on which it stands
+unfoldable pub carOut : Plan → List Move → ℕ → Car
+carOut plan moves junction = getD (leadsTo moves (startState plan) .junctions) (junction - 1) restJunction .main

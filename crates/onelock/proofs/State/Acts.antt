@@ -1,16 +1,16 @@
 -- The line of a state after an action, and the lists' places after a start, a step and an action.
-use Prim.Native.Nat.{ℕ, zero, suc, _+_, _-_, _≤_, _<_}
-use mathlib.Core.Path.{_≡_, refl, _∙_, ap, ap₂}
+use Prim.Native.Nat.{ℕ, suc, _+_, _-_, _≤_, _<_}
+use mathlib.Core.Path.{_≡_, refl, sym, _∙_, ap, ap₂}
 use mathlib.Core.Bool.{Bool, true, false, cond}
 use mathlib.Core.List.{List}
-use native.Mathlib.Numerals.{add-one}
 use native.Mathlib.Omega.{arith}
-use lib.Dec.{eqb, eqb·suc-zero}
+use lib.Dec.{eqb}
 use lib.ListN.{getD, set, length, length-set, length-replicate}
 use lib.Seq.{getD-set-same, getD-set-other}
 use borrow.Author.Tests.{eqb-true, eqb-false}
 use Rattle.plan.specs.declared.Plan.{Plan}
-use Rattle.plan.specs.Plan.{inRange, valueAt, sizeOf, junctionsOf}
+use Rattle.positions.specs.Ring.{Ring, noMore, userNode, aJunction, nodesIn, junctionsIn}
+use Rattle.plan.specs.Plan.{ringOf, inRange}
 use Rattle.usernode.specs.declared.Node.{Node}
 use Rattle.junction.specs.declared.Junction.{Junction}
 use Rattle.zeronode.specs.Rules.{emptySlot}
@@ -22,22 +22,22 @@ use Rattle.ring.specs.Actions.{actedState, actionNumber}
 use Rattle.ring.specs.Walk.{setOut, walk}
 use Rattle.ring.specs.Step.{nextState}
 use Rattle.ring.proofs.Laws.{accepted-node, node-place}
-use Rattle.onelock.proofs.Line.Ring.{Line, user, junction, change}
-use Rattle.onelock.proofs.State.AsLine.{usersFrom, positionAt, positionsFrom, lineOf, Formed}
-use Rattle.onelock.proofs.State.Through.{users-size}
-use Rattle.onelock.proofs.State.Walk.{through-walk}
+use Rattle.onelock.proofs.Line.Ring.{user, junction, change}
+use Rattle.onelock.proofs.State.AsLine.{lineAt, lineOf, Formed}
+use Rattle.onelock.proofs.State.Through.{line-nodes}
+use Rattle.onelock.proofs.State.Walk.{goes-walk}
 use Rattle.onelock.proofs.State.Zero.{zero-places}
 
 -- the lists have their places at the start
 pub formed-start : (plan : Plan) → Formed (startOf plan)
 unfolding startOf
-formed-start plan = record { nodes = length-replicate 64 restNode; junctions = length-replicate 16 restJunction; queue = length-replicate 65 emptySlot }
+formed-start plan = record { nodes = length-replicate 64 restNode; junctions = length-replicate 144 restJunction; queue = length-replicate 65 emptySlot }
 
 -- a step leaves the places of the lists
 pub formed-next : (s : State) → Formed s → s .zeroth .count ≤ 65 → Formed (nextState s)
 unfolding nextState setOut
 formed-next s f c =
-    let l = through-walk s .later in
+    let l = goes-walk s .later in
     record { nodes = l .node-places ∙ f .nodes; junctions = l .junction-places ∙ f .junctions; queue = zero-places (s .zeroth) (walk s .last) (f .queue) c }
 
 -- an action leaves the places of the lists
@@ -61,27 +61,15 @@ module _ (nodes : List Node) (q : ℕ) (f : Node → Node) (below : q < length n
           rw same (getD-set-same nodes q _ restNode below)
       go false e = getD-set-other nodes q i _ restNode (omega (arith, eqb-false (suc i) (suc q) e))
 
-  -- so many user nodes of that list
-  users-anew : (i n : ℕ) → usersFrom anew i n ≡ change (suc q) f i (usersFrom nodes i n)
-  users-anew i zero = refl
-  users-anew i (suc n) = ap₂ user (node-anew i) (users-anew (suc i) n)
-
-  -- a position of that list and what is behind it
-  position-anew : (junctions : List Junction) (v i j : ℕ) (new old : Line) → new ≡ change (suc q) f (i + sizeOf v) old
-      → positionAt anew junctions v i j new ≡ change (suc q) f i (positionAt nodes junctions v i j old)
-  unfolding sizeOf
-  position-anew junctions zero i j new old e = ap₂ user (node-anew i) (rw add-one at e)
-  position-anew junctions (suc v) i j new old e =
-      ap₂ (junction (getD junctions j restJunction)) (users-anew i (suc v))
-      (e ∙ ap (λ (k : ℕ). change (suc q) f k old) (rw (eqb·suc-zero, users-size nodes (suc i) v)))
-
-  -- so many positions of that list
-  positions-anew : (plan : Plan) (junctions : List Junction) (n place i j : ℕ)
-      → positionsFrom plan anew junctions place n i j ≡ change (suc q) f i (positionsFrom plan nodes junctions place n i j)
-  positions-anew plan junctions zero place i j = refl
-  positions-anew plan junctions (suc n) place i j =
-      let v = valueAt plan place in
-      position-anew junctions v i j _ _ (positions-anew plan junctions n (suc place) (i + sizeOf v) (j + junctionsOf v))
+  -- a ring along that list
+  line-anew : (t : Ring) (junctions : List Junction) (i j : ℕ) → lineAt t anew junctions i j ≡ change (suc q) f i (lineAt t nodes junctions i j)
+  line-anew noMore junctions i j = refl
+  line-anew (userNode rest) junctions i j = ap₂ user (node-anew i) (line-anew rest junctions (suc i) j)
+  line-anew (aJunction subring rest) junctions i j =
+      let behind = lineAt rest nodes junctions (i + nodesIn subring) (j + 1 + junctionsIn subring) in
+      ap₂ (junction (getD junctions j restJunction)) (line-anew subring junctions i (j + 1))
+      (line-anew rest junctions (i + nodesIn subring) (j + 1 + junctionsIn subring)
+      ∙ ap (λ (k : ℕ). change (suc q) f (i + k) behind) (sym (line-nodes subring nodes junctions i (j + 1))))
 
 -- the line after an action
 pub line-act : (action : Action) (s : State) (node lock : ℕ) → Formed s → actionNumber action s node lock ≡ 0 → inRange (s .plan) ≡ true
@@ -92,5 +80,5 @@ line-act action s node lock f a r =
     let e : suc (node - 1) ≡ node = omega (arith, place .0) in
     let low : node - 1 < length (s .nodes) = omega (arith, place .0, place .1, f .nodes) in
     let act : Node → Node = λ u. acted (s .plan .rules) action u lock in
-    positions-anew (s .nodes) (node - 1) act low (s .plan) (s .junctions) (s .plan .positions) 0 0 0
+    line-anew (s .nodes) (node - 1) act low (ringOf (s .plan)) (s .junctions) 0 0
     ∙ ap (λ (number : ℕ). change number act 0 (lineOf s)) e

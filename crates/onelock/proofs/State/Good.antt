@@ -1,38 +1,43 @@
 -- What the theorems need of every state that a schedule reaches from the start, drawn from the invariant and said of the model's state alone.
 use Prim.Native.Nat.{ℕ, suc, _+_, _-_, _≤_, _<_}
 use mathlib.Core.Path.{_≡_, refl, sym, ap, _∙_, subst}
-use mathlib.Core.Bool.{Bool, true, false}
+use mathlib.Core.Bool.{Bool, true, false, _&&_}
+use native.Mathlib.Nat.{zero-add}
 use native.Mathlib.Omega.{arith}
+use lib.Dec.{leb, ltb}
 use lib.ListN.{getD}
-use borrow.Author.Tests.{ne-eqb}
-use Rattle.lists.proofs.Laws.{some-at, some-found}
+use borrow.Author.Tests.{ltb-true, leb-true}
+use Rattle.lists.proofs.Laws.{and-left, and-right, some-at, some-found}
 use Rattle.lists.proofs.Places.{place-default}
 use Rattle.words.specs.Words.{has}
 use Rattle.cars.specs.declared.Car.{Car}
 use Rattle.plan.specs.declared.Plan.{Plan}
-use Rattle.plan.specs.Plan.{nodePlaces, valueAt, inRange, nodesBefore, nodeCount}
-use Rattle.plan.proofs.Laws.{size-many, nodes-within, counted}
+use Rattle.positions.specs.Ring.{Ring, junctionsIn}
+use Rattle.plan.specs.Plan.{nodePlaces, ringOf, inRange, nodeCount, junctionCount}
+use Rattle.plan.proofs.Laws.{counted, junctions-counted}
 use Rattle.usernode.specs.declared.Node.{Node}
 use Rattle.usernode.specs.Node.{had}
 use Rattle.zeronode.specs.Turn.{overflows}
 use Rattle.ring.specs.declared.State.{State}
-use Rattle.ring.specs.State.{restNode, nodeOf, startOf}
+use Rattle.ring.specs.State.{restNode, restJunction, nodeOf, startOf}
 use Rattle.ring.specs.Sound.{sound}
 use Rattle.ring.specs.Walk.{walk}
-use Rattle.onelock.specs.OneLock.{junctionAt, subringHas}
+use Rattle.onelock.specs.OneLock.{Within as Nodes, within, junctionAt, somebodyWithinHas, isWithin, standsAround}
 use Rattle.onelock.proofs.Train.Cells.{Apart}
-use Rattle.onelock.proofs.Line.Ring.{Line, end, user, junction}
+use Rattle.onelock.proofs.Line.Ring.{Line, end, user, junction, size}
 use Rattle.onelock.proofs.Line.Meets.{Meets, meets-all}
 use Rattle.onelock.proofs.Line.Numbers.{Upto}
+use Rattle.onelock.proofs.Line.Nested.{Aside, TourWithin, tours-nest}
 use Rattle.onelock.proofs.Whole.Ready.{Ready, whole-ready, Awaited}
 use Rattle.onelock.proofs.Whole.Words.{TrueWord, whole-words}
 use Rattle.onelock.proofs.Whole.Queue.{whole-queue}
 use Rattle.onelock.proofs.Whole.Start.{rest-none}
-use Rattle.onelock.proofs.State.AsLine.{usersFrom, lineOf, queueOf, strays, Formed}
-use Rattle.onelock.proofs.State.Through.{users-size}
+use Rattle.onelock.proofs.State.AsLine.{lineAt, lineOf, queueOf, strays, Formed}
+use Rattle.onelock.proofs.State.Through.{line-nodes}
 use Rattle.onelock.proofs.State.Walk.{walk-astray}
 use Rattle.onelock.proofs.State.Zero.{queue-length}
-use Rattle.onelock.proofs.State.Lists.{line-junction}
+use Rattle.onelock.proofs.State.Within.{withinAt, Holds, junction-holds, node-part}
+use Rattle.onelock.proofs.State.Around.{ring-filled, among, junction-within}
 use Rattle.onelock.proofs.State.Kept.{Kept, kept-count, kept-room, kept-node}
 
 -- a node of the state, by its number
@@ -54,8 +59,12 @@ pub record Good (s : State) : Type 0 where
   pub one : (lock i k : ℕ) → Within s i → Within s k → had (nodeOf s i) lock ≡ true → had (nodeOf s k) lock ≡ true → i ≡ k
   pub apart : (k : ℕ) → Within s k → Apart (nodeOf s k)
   pub back : Meets (Awaited (NobodyHas s)) 0 (s .zeroth .car) (lineOf s)
-  pub words : (place : ℕ) → place < s .plan .positions → (valueAt (s .plan) place ≡ 0 → ⊥) → junctionAt s place .tour ≡ false
-      → (lock : ℕ) → has (junctionAt s place .word) lock ≡ subringHas s place lock
+  pub words : (place : ℕ) → place < junctionCount (s .plan) → junctionAt s place .tour ≡ false
+      → (lock : ℕ) → has (junctionAt s place .word) lock ≡ somebodyWithinHas s place lock
+  pub flags : (place number : ℕ) → place < junctionCount (s .plan) → isWithin (s .plan) place number ≡ true → junctionAt s place .tour ≡ false
+      → nodeOf s number .flag ≡ false
+  pub aside : (outer inner : ℕ) → inner < junctionCount (s .plan) → standsAround (s .plan) outer inner ≡ true → junctionAt s outer .tour ≡ false
+      → Aside (junctionAt s inner)
 
 -- at the start no node has a lock
 pub rest-has-none : (plan : Plan) (node lock : ℕ) → had (nodeOf (startOf plan) node) lock ≡ false
@@ -83,52 +92,96 @@ module _ (s : State) (x : Kept s) where
   had-kept : (k lock : ℕ) → Within s k → had (A k) lock ≡ had (nodeOf s k) lock
   had-kept k lock u = ap (λ (v : Node). had v lock) (kept-node s x k u)
 
+  -- the plan's ring
+  abbrev ring : Ring
+  ring = ringOf (s .plan)
+
+  -- the nodes within the junction at a place
+  abbrev around : ℕ → Nodes
+  around place = withinAt ring 0 place
+
   -- each node is ready for its car
   each-ready : Meets (Ready A) 0 (s .zeroth .car) (lineOf s)
   each-ready = whole-ready (s .plan .rules) (nodeCount (s .plan)) (s .zeroth .car) (queueOf (s .zeroth)) (lineOf s) (x .whole)
 
-  -- a node of a subring, by its place there, has a lock where the invariant's node has it
-  subring-had : (place q lock : ℕ) → place < s .plan .positions → (valueAt (s .plan) place ≡ 0 → ⊥) → q < valueAt (s .plan) place
-      → had (A (suc (nodesBefore (s .plan) place + q))) lock ≡ had (getD (s .nodes) (nodesBefore (s .plan) place + q) restNode) lock
+  -- a node within a junction, by its place there, has a lock where the invariant's node has it
+  within-had : (place q lock : ℕ) → place < junctionsIn ring → q < around place .many
+      → had (A (suc (around place .low + q))) lock ≡ had (getD (s .nodes) (around place .low + q) restNode) lock
   unfolding nodeOf
-  subring-had place q lock below value inside =
-      let number = nodesBefore (s .plan) place + q in
-      let v = valueAt (s .plan) place in
+  within-had place q lock below inside =
+      let number = around place .low + q in
       let most : suc number ≤ nodeCount (s .plan) =
-      omega (arith, nodes-within (s .plan) (s .plan .positions) place below, size-many v (ne-eqb v 0 value), counted (s .plan) (x .plan)) in
+      omega (arith, among ring 0 place (ring-filled (s .plan) (x .plan)) below .high, counted (s .plan) (x .plan)) in
       let here : suc number - 1 ≡ number = omega arith in
       had-kept (suc number) lock (record { low = omega arith; high = most }) ∙ ap (λ (i : ℕ). had (getD (s .nodes) i restNode) lock) here
 
-  -- a junction's word is true of its subring
-  true-word : (place : ℕ) → place < s .plan .positions → (valueAt (s .plan) place ≡ 0 → ⊥) → junctionAt s place .tour ≡ false
-      → (lock : ℕ) → has (junctionAt s place .word) lock ≡ subringHas s place lock
-  unfolding junctionAt subringHas
-  true-word place below value tour lock =
+  -- a junction's word is true of the nodes within it
+  true-word : (place : ℕ) → place < junctionCount (s .plan) → junctionAt s place .tour ≡ false
+      → (lock : ℕ) → has (junctionAt s place .word) lock ≡ somebodyWithinHas s place lock
+  unfolding junctionAt somebodyWithinHas within
+  true-word place below tour lock =
       same-test _ _
       (λ h.
-      let w = word .to tour lock h in
+      let w = word .holds .to tour lock h in
       let q = w .who - suc k in
-      let inside : q < v = omega (arith, w .above, w .upto, users-size (s .nodes) k v) in
+      let inside : q < v = omega (arith, w .above, w .upto, long) in
       let number : w .who ≡ suc (k + q) = omega (arith, w .above) in
-      some-at f v q inside (sym (subring-had place q lock below value inside) ∙ ap (λ (i : ℕ). had (A i) lock) (sym number) ∙ w .has-it))
+      some-at f v q inside (sym (within-had place q lock low inside) ∙ ap (λ (i : ℕ). had (A i) lock) (sym number) ∙ w .has-it))
       (λ h.
       let w = some-found f v h in
-      word .from tour lock (suc (k + w .place)) (omega arith) (omega (arith, w .below, users-size (s .nodes) k v))
-      (subring-had place (w .place) lock below value (w .below) ∙ w .holds))
+      word .holds .from tour lock (suc (k + w .place)) (omega arith) (omega (arith, w .below, long)) (within-had place (w .place) lock low (w .below) ∙ w .holds))
     where
       k : ℕ
-      k = nodesBefore (s .plan) place
+      k = around place .low
 
       v : ℕ
-      v = valueAt (s .plan) place
+      v = around place .many
 
       f : ℕ → Bool
       f q = had (getD (s .nodes) (k + q) restNode) lock
 
-      word : TrueWord A k (junctionAt s place) (usersFrom (s .nodes) k v)
+      low : place < junctionsIn ring
+      low = omega (arith, below, junctions-counted (s .plan) (x .plan))
+
+      word : Holds (s .nodes) (s .junctions) (TrueWord A) (around place) place
       word =
-          line-junction (TrueWord A) s place
-          (whole-words (s .plan .rules) (nodeCount (s .plan)) (s .zeroth .car) (queueOf (s .zeroth)) (lineOf s) (x .whole)) below value
+          subst (Holds (s .nodes) (s .junctions) (TrueWord A) (around place)) (zero-add place)
+          (junction-holds (s .nodes) (s .junctions) (TrueWord A) ring 0 0 place low
+          (whole-words (s .plan .rules) (nodeCount (s .plan)) (s .zeroth .car) (queueOf (s .zeroth)) (lineOf s) (x .whole)))
+
+      long : size (lineAt (word .subring) (s .nodes) (s .junctions) k (place + 1)) ≡ v
+      long = line-nodes (word .subring) (s .nodes) (s .junctions) k (place + 1) ∙ sym (word .many)
+
+  -- within a junction outside a tour every node's flag is clear
+  clear-flag : (place number : ℕ) → place < junctionCount (s .plan) → isWithin (s .plan) place number ≡ true → junctionAt s place .tour ≡ false
+      → nodeOf s number .flag ≡ false
+  unfolding junctionAt isWithin within nodeOf
+  clear-flag place number below inside tour =
+      let low : place < junctionsIn ring = omega (arith, below, junctions-counted (s .plan) (x .plan)) in
+      let w = around place in
+      let above = ltb-true (w .low) number (and-left _ (leb number (w .low + w .many)) inside) in
+      let upto = leb-true number (w .low + w .many) (and-right (ltb (w .low) number) _ inside) in
+      let here = junction-holds (s .nodes) (s .junctions) TourWithin ring 0 0 place low (tours-nest (x .whole .fit)) in
+      let clear = here .holds (ap (λ (p : ℕ). getD (s .junctions) p restJunction .tour) (zero-add place) ∙ tour) in
+      node-part (s .nodes) (s .junctions) (λ u. u .flag ≡ false) Aside (here .subring) (w .low) (0 + place + 1) (number - 1) clear (omega (arith, above))
+      (omega (arith, above, upto, here .many))
+
+  -- and every junction is outside a tour, its train flag clear
+  stands-aside : (outer inner : ℕ) → inner < junctionCount (s .plan) → standsAround (s .plan) outer inner ≡ true → junctionAt s outer .tour ≡ false
+      → Aside (junctionAt s inner)
+  unfolding junctionAt standsAround within
+  stands-aside outer inner below stands tour =
+      let low : inner < junctionsIn ring = omega (arith, below, junctions-counted (s .plan) (x .plan)) in
+      let v = around outer in
+      let w = around inner in
+      let first = ltb outer inner && leb (v .low) (w .low) in
+      let last = leb (w .low + w .many) (v .low + v .many) in
+      let later = ltb-true outer inner (and-left _ (leb (v .low) (w .low)) (and-left first last stands)) in
+      let upto = leb-true (w .low + w .many) (v .low + v .many) (and-right first last stands) in
+      subst (λ (p : ℕ). Aside (getD (s .junctions) p restJunction)) (zero-add inner)
+      (junction-within (s .nodes) (s .junctions) (λ j. j .tour ≡ false) (λ u. u .flag ≡ false) Aside ring 0 0 outer inner
+      (ring-filled (s .plan) (x .plan)) (tours-nest (x .whole .fit)) later low upto
+      (ap (λ (p : ℕ). getD (s .junctions) p restJunction .tour) (zero-add outer) ∙ tour))
 
   -- a state with the invariant is good
   pub good : Good s
@@ -150,4 +203,6 @@ module _ (s : State) (x : Kept s) where
             (λ n a u ready t e source. let b = ready .back t e source in (b .0, λ k w h. b .1 k (had-kept k (t .lock) w ∙ h)))
             0 (s .zeroth .car) (lineOf s) each-ready;
         words = true-word;
+        flags = clear-flag;
+        aside = stands-aside;
       }

@@ -1,6 +1,7 @@
--- The model's walk through a part of the line, from any walk on: what it ends with, and what it leaves of the part's nodes and junctions.
+-- The model's walk along a part of the line, from any walk on: what it ends with, and what it leaves of the part's nodes and junctions. A junction is
+-- put anew when its subring has been walked along, so a later walk is asked only for what lies between two walks.
 use Prim.Native.Nat.{ℕ, zero, suc, _+_, _-_, _≤_, _<_}
-use mathlib.Core.Path.{_≡_, refl, _∙_, sym, ap, ap₂, subst}
+use mathlib.Core.Path.{_≡_, refl, _∙_, sym, ap, ap₂, subst, subst₂}
 use mathlib.Core.Bool.{Bool, true, false, or-false, _||_, or-assoc}
 use mathlib.Core.List.{List}
 use native.Mathlib.Nat.{add-zero}
@@ -8,9 +9,9 @@ use native.Mathlib.Numerals.{add-one}
 use native.Mathlib.Omega.{arith}
 use lib.ListN.{getD, set, length, length-set}
 use lib.Seq.{getD-set-same, getD-set-other}
-use Rattle.lists.specs.Loops.{some, iterate}
-use Rattle.lists.proofs.Laws.{iterate-first}
+use Rattle.lists.specs.Loops.{some}
 use Rattle.cars.specs.declared.Car.{Car}
+use Rattle.positions.specs.Ring.{Ring, noMore, userNode, aJunction, nodesIn, junctionsIn}
 use Rattle.usernode.specs.declared.Node.{Node}
 use Rattle.turns.specs.declared.Turn.{Turn}
 use Rattle.usernode.specs.Node.{wantsTrain}
@@ -21,10 +22,11 @@ use Rattle.junction.specs.Turn.{junctionTurn}
 use Rattle.ring.specs.declared.State.{State}
 use Rattle.ring.specs.declared.Happening.{Happening}
 use Rattle.ring.specs.State.{restNode, restJunction}
-use Rattle.ring.specs.Walk.{Walk, quiet, nodeHere, junctionHere, turnHere, onNode, wanted, intoSubring, outOfSubring}
+use Rattle.ring.specs.Walk.{Walk, quiet, nodeHere, junctionHere, turnHere, onNode, wanted, enters, leaves, along}
+use Rattle.ring.proofs.Routed.{along-passed, along-turned}
 use Rattle.onelock.proofs.Line.Ring.{Line, end, user, junction, size, out, wanting, stepLine}
 use Rattle.onelock.proofs.Line.Meets.{Meets}
-use Rattle.onelock.proofs.State.AsLine.{usersFrom, strays}
+use Rattle.onelock.proofs.State.AsLine.{lineAt, strays}
 
 -- a walk that went on from another: what is behind the other one is as it was, and the lists keep their places
 pub record Later (w v : Walk) : Type 0 where
@@ -65,6 +67,25 @@ later-then w v x a b =
       junction-places = b .junction-places ∙ a .junction-places;
     }
 
+-- a walk that has what v left in the places that v passed since w
+pub record Between (w v x : Walk) : Type 0 where
+  pub nodes : (n : ℕ) → w .passed ≤ n → n < v .passed → getD (x .nodes) n restNode ≡ getD (v .nodes) n restNode
+  pub events : (n : ℕ) → w .passed ≤ n → n < v .passed → getD (x .events) n quiet ≡ getD (v .events) n quiet
+  pub junctions : (n : ℕ) → w .turned ≤ n → n < v .turned → getD (x .junctions) n restJunction ≡ getD (v .junctions) n restJunction
+
+-- v itself has it
+pub between-self : (w v : Walk) → Between w v v
+between-self w v = record { nodes = λ n l h. refl; events = λ n l h. refl; junctions = λ n l h. refl }
+
+-- what has it since w and to z has it since v, where v is between them
+between-first : (w v z x : Walk) → Later w v → Between w z x → Between v z x
+between-first w v z x l b =
+    record {
+      nodes = λ n low high. b .nodes n (omega (arith, l .further)) high;
+      events = λ n low high. b .events n (omega (arith, l .further)) high;
+      junctions = λ n low high. b .junctions n (omega (arith, l .turned)) high;
+    }
+
 -- the lists have places for all that a walk has passed
 pub record Room (w : Walk) : Type 0 where
   pub nodes : w .passed ≤ length (w .nodes)
@@ -81,28 +102,28 @@ pub record Made (s : State) (w : Walk) (number : ℕ) (arrival : Car) (u : Node)
 abbrev pub Part : Type 0
 Part = List Node → List Junction → Line
 
--- what a later walk x made of a part that the walk w came to; inner says whether the part stands on a subring
+-- what a walk x has of a part that the walk w came to; inner says whether the part stands on a subring
 pub record Steps (s : State) (inner : Bool) (part : Part) (w x : Walk) : Type 0 where
   pub line : part (x .nodes) (x .junctions) ≡ stepLine (s .plan .rules) inner (w .passed) (w .last) (part (s .nodes) (s .junctions))
   pub acts : Meets (Made s x) (w .passed) (w .last) (part (s .nodes) (s .junctions))
 
--- the walk w went through a part and is then v
-pub record Through (s : State) (inner : Bool) (part : Part) (w v : Walk) : Type 0 where
+-- the walk w goes along a part and is then v
+pub record Goes (s : State) (inner : Bool) (part : Part) (w v : Walk) : Type 0 where
   pub last : v .last ≡ out (w .last) (part (s .nodes) (s .junctions))
   pub astray : v .astray ≡ (w .astray || strays (w .passed) (w .last) (part (s .nodes) (s .junctions)))
   pub passed : v .passed ≡ w .passed + size (part (s .nodes) (s .junctions))
   pub later : Later w v
-  pub after : (x : Walk) → Room x → Later v x → Steps s inner part w x
+  pub after : (x : Walk) → Room v → Between w v x → Steps s inner part w x
 
--- through the empty part
-pub through-end : (s : State) (inner : Bool) (w : Walk) → Through s inner (λ ns js. end) w w
-through-end s inner w =
+-- along the empty part
+goes-end : (s : State) (inner : Bool) (w : Walk) → Goes s inner (λ ns js. end) w w
+goes-end s inner w =
     record {
       last = refl;
       astray = sym (or-false (w .astray));
       passed = sym (add-zero (w .passed));
       later = later-self w;
-      after = λ x f l. record { line = refl; acts = tt };
+      after = λ x f b. record { line = refl; acts = tt };
     }
 
 -- the user node that a walk comes to
@@ -114,7 +135,7 @@ abbrev itsTurn : State → Walk → Turn
 itsTurn s w = turn (s .plan .rules) (suc (w .passed)) (w .last) (came s w)
 
 -- the walk past it
-abbrev pub pastNode : State → Walk → Walk
+abbrev pastNode : State → Walk → Walk
 pastNode s w =
     record {
       passed = suc (w .passed);
@@ -127,7 +148,7 @@ pastNode s w =
     }
 
 -- the walk past a node is the model's
-pub past-node : (s : State) (w : Walk) → onNode s w ≡ pastNode s w
+past-node : (s : State) (w : Walk) → onNode s w ≡ pastNode s w
 unfolding onNode turnHere nodeHere
 past-node s w = simp add-one
 
@@ -145,89 +166,85 @@ later-node s w =
       junction-places = refl;
     }
 
--- what any later walk has of that node
-node-after : (s : State) (w x : Walk) → Room x → Later (pastNode s w) x → getD (x .nodes) (w .passed) restNode ≡ itsTurn s w .node
-node-after s w x f l =
-    l .nodes (w .passed) (omega arith)
+-- past the node and on to z: what a walk that has what z left has of that node
+node-after : (s : State) (w z x : Walk) → Room z → Later (pastNode s w) z → Between w z x → getD (x .nodes) (w .passed) restNode ≡ itsTurn s w .node
+node-after s w z x f l b =
+    b .nodes (w .passed) (omega arith) (omega (arith, l .further))
+    ∙ l .nodes (w .passed) (omega arith)
     ∙ getD-set-same (w .nodes) (w .passed) _ restNode (omega (arith, l .further, f .nodes, l .node-places, later-node s w .node-places))
 
--- what any later walk made of that node
-made-node : (s : State) (w x : Walk) → Room x → Later (pastNode s w) x → Made s x (suc (w .passed)) (w .last) (came s w)
-made-node s w x f l =
+-- and what it made of that node
+made-node : (s : State) (w z x : Walk) → Room z → Later (pastNode s w) z → Between w z x → Made s x (suc (w .passed)) (w .last) (came s w)
+made-node s w z x f l b =
     let e : suc (w .passed) - 1 ≡ w .passed = omega arith in
     record {
       old = ap (λ (n : ℕ). getD (s .nodes) n restNode) e;
-      new = ap (λ (n : ℕ). getD (x .nodes) n restNode) e ∙ node-after s w x f l;
-      event = ap (λ (n : ℕ). getD (x .events) n quiet .event) e ∙ ap (λ (h : Happening). h .event) (l .events (w .passed) (omega arith)
+      new = ap (λ (n : ℕ). getD (x .nodes) n restNode) e ∙ node-after s w z x f l b;
+      event = ap (λ (n : ℕ). getD (x .events) n quiet .event) e ∙ ap (λ (h : Happening). h .event)
+          (b .events (w .passed) (omega arith) (omega (arith, l .further))
+          ∙ l .events (w .passed) (omega arith)
           ∙ getD-set-same (w .events) (w .passed) _ quiet (omega (arith, l .further, f .events, l .event-places, later-node s w .event-places)));
     }
 
--- through a user node and what is behind it
-pub through-node : (s : State) (inner : Bool) (rest : Part) (w z : Walk) → Through s inner rest (pastNode s w) z
-    → Through s inner (λ ns js. user (getD ns (w .passed) restNode) (rest ns js)) w z
-through-node s inner rest w z t =
+-- along a user node and what is behind it
+goes-node : (s : State) (inner : Bool) (rest : Part) (w z : Walk) → Goes s inner rest (pastNode s w) z
+    → Goes s inner (λ ns js. user (getD ns (w .passed) restNode) (rest ns js)) w z
+goes-node s inner rest w z t =
     record {
       last = t .last;
       astray = t .astray ∙ or-assoc (w .astray) _ _;
       passed = omega (arith, t .passed);
       later = later-then w (pastNode s w) z (later-node s w) (t .later);
-      after = λ x f l.
-          let n = later-then (pastNode s w) z x (t .later) l in
+      after = λ x f b.
+          let o = t .after x f (between-first w (pastNode s w) z x (later-node s w) b) in
           record {
-            line = ap₂ user (node-after s w x f n) (t .after x f l .line);
-            acts = (made-node s w x f n, t .after x f l .acts);
+            line = ap₂ user (node-after s w z x f (t .later) b) (o .line);
+            acts = (made-node s w z x f (t .later) b, o .acts);
           };
     }
 
--- through the user nodes of a subring
-through-users : (s : State) (n : ℕ) (w : Walk) → Through s true (λ ns js. usersFrom ns (w .passed) n) w (iterate (onNode s) n w)
-unfolding iterate
-through-users s zero w = through-end s true w
-through-users s (suc n) w =
-    subst (Through s true (λ ns js. usersFrom ns (w .passed) (suc n)) w) (sym (iterate-first (onNode s) n w ∙ ap (iterate (onNode s) n) (past-node s w)))
-    (through-node s true (λ ns js. usersFrom ns (suc (w .passed)) n) w _ (through-users s n (pastNode s w)))
+-- a ring's line has the ring's nodes
+pub line-nodes : (t : Ring) (nodes : List Node) (junctions : List Junction) (i j : ℕ) → size (lineAt t nodes junctions i j) ≡ nodesIn t
+unfolding nodesIn
+line-nodes noMore nodes junctions i j = refl
+line-nodes (userNode rest) nodes junctions i j = omega (arith, line-nodes rest nodes junctions (suc i) j)
+line-nodes (aJunction subring rest) nodes junctions i j =
+    ap₂ (λ (m n : ℕ). m + n) (line-nodes subring nodes junctions i (j + 1))
+    (line-nodes rest nodes junctions (i + nodesIn subring) (j + 1 + junctionsIn subring))
 
--- the user nodes of a subring leave the count of the junctions
-users-turned : (s : State) (n : ℕ) (w : Walk) → iterate (onNode s) n w .turned ≡ w .turned
-unfolding iterate onNode
-users-turned s zero w = refl
-users-turned s (suc n) w = users-turned s n w
-
--- and the junctions
-users-junctions : (s : State) (n : ℕ) (w : Walk) → iterate (onNode s) n w .junctions ≡ w .junctions
-unfolding iterate onNode
-users-junctions s zero w = refl
-users-junctions s (suc n) w = users-junctions s n w
-
--- so many user nodes are so many
-pub users-size : (nodes : List Node) (i n : ℕ) → size (usersFrom nodes i n) ≡ n
-users-size nodes i zero = refl
-users-size nodes i (suc n) = ap suc (users-size nodes (suc i) n)
-
--- whether one of them wants a train: the last of them by itself
-wanting-last : (nodes : List Node) (i n : ℕ) → wanting (usersFrom nodes i (suc n)) ≡ (wanting (usersFrom nodes i n) || wantsTrain (getD nodes (i + n) restNode))
-wanting-last nodes i zero = rw add-zero (or-false (wantsTrain (getD nodes i restNode)))
-wanting-last nodes i (suc n) =
-    let e : suc i + n ≡ i + suc n = omega arith in
-    ap (λ (b : Bool). wantsTrain (getD nodes i restNode) || b) (wanting-last nodes (suc i) n)
-    ∙ sym (or-assoc (wantsTrain (getD nodes i restNode)) _ _)
-    ∙ ap (λ (p : ℕ). wanting (usersFrom nodes i (suc n)) || wantsTrain (getD nodes p restNode)) e
-
--- whether one of them wants a train, as the model asks it
-wanted-users : (s : State) (i n : ℕ) → wanted s i n ≡ wanting (usersFrom (s .nodes) i n)
+-- some node of two rows of nodes, one behind the other, wants a train: one of the first or one of the second
+wanted-both : (s : State) (i m n : ℕ) → wanted s i (m + n) ≡ (wanted s i m || wanted s (i + m) n)
 unfolding wanted some
-wanted-users s i zero = refl
-wanted-users s i (suc n) = ap (λ (b : Bool). b || wantsTrain (getD (s .nodes) (i + n) restNode)) (wanted-users s i n) ∙ sym (wanting-last (s .nodes) i n)
+wanted-both s i m zero = ap (wanted s i) (add-zero m) ∙ sym (or-false (wanted s i m))
+wanted-both s i m (suc n) =
+    let e : m + suc n ≡ suc (m + n) = omega arith in
+    let p : i + (m + n) ≡ i + m + n = omega arith in
+    ap (wanted s i) e
+    ∙ ap₂ (λ (b : Bool) (k : ℕ). b || wantsTrain (getD (s .nodes) k restNode)) (wanted-both s i m n) p
+    ∙ or-assoc (wanted s i m) _ _
 
--- past a junction whose subring has so many user nodes
-module _ (s : State) (v : ℕ) (w : Walk) where
+-- some node of a ring wants a train, as the model asks it
+wanted-line : (s : State) (t : Ring) (i j : ℕ) → wanted s i (nodesIn t) ≡ wanting (lineAt t (s .nodes) (s .junctions) i j)
+unfolding nodesIn wanted some
+wanted-line s noMore i j = refl
+wanted-line s (userNode rest) i j =
+    let e : nodesIn rest + 1 ≡ 1 + nodesIn rest = omega arith in
+    ap (wanted s i) e ∙ wanted-both s i 1 (nodesIn rest)
+    ∙ ap₂ (λ (p q : ℕ). wantsTrain (getD (s .nodes) p restNode) || wanted s q (nodesIn rest)) (add-zero i) (add-one i)
+    ∙ ap (λ (b : Bool). wantsTrain (getD (s .nodes) i restNode) || b) (wanted-line s rest (suc i) j)
+wanted-line s (aJunction subring rest) i j =
+    wanted-both s i (nodesIn subring) (nodesIn rest)
+    ∙ ap₂ (λ (a b : Bool). a || b) (wanted-line s subring i (j + 1)) (wanted-line s rest (i + nodesIn subring) (j + 1 + junctionsIn subring))
+
+-- past a junction, by how the walk goes along its subring
+module _ (s : State) (inner : Bool) (subring : Ring) (w : Walk) where
   -- the walk at the subring's end
-  abbrev inside : Walk
-  inside = iterate (onNode s) v (intoSubring s w)
+  abbrev within : Walk
+  within = along s true subring (enters s w)
 
   -- the walk behind the junction
-  abbrev pub behind : Walk
-  behind = outOfSubring s v w inside
+  abbrev behind : Walk
+  behind = leaves s inner (nodesIn subring) w within
 
   -- the junction
   abbrev here : Junction
@@ -235,89 +252,107 @@ module _ (s : State) (v : ℕ) (w : Walk) where
 
   -- its subring's line
   abbrev users : Line
-  users = usersFrom (s .nodes) (w .passed) v
+  users = lineAt subring (s .nodes) (s .junctions) (w .passed) (w .turned + 1)
 
-  -- through the subring
-  inner : Through s true (λ ns js. usersFrom ns (w .passed) v) (intoSubring s w) inside
-  unfolding intoSubring
-  inner = through-users s v (intoSubring s w)
+  -- its turn, as the line has it
+  abbrev turns : Junction
+  turns = junctionTurn inner (w .passed) (w .passed + size users) (wanting users) (w .last) (out (here .subring) users) here
 
-  -- how many nodes are behind it then
-  pub behind-passed : behind .passed ≡ w .passed + v
-  unfolding intoSubring outOfSubring
-  behind-passed = inner .passed ∙ ap (λ (n : ℕ). w .passed + n) (users-size (s .nodes) (w .passed) v)
+  module _ (g : Goes s true (λ ns js. lineAt subring ns js (w .passed) (w .turned + 1)) (enters s w) within) where
+    -- it leaves what is behind the junction
+    later-junction : Later w behind
+    unfolding enters leaves
+    later-junction =
+        let i = g .later in
+        record {
+          further = i .further;
+          turned = omega (arith, i .turned);
+          nodes = i .nodes;
+          events = i .events;
+          junctions = λ n l. getD-set-other (within .junctions) (w .turned) n _ restJunction (omega arith) ∙ i .junctions n (omega arith);
+          node-places = i .node-places;
+          event-places = i .event-places;
+          junction-places = length-set (within .junctions) (w .turned) _ ∙ i .junction-places;
+        }
 
-  -- one junction more is behind it
-  pub behind-turned : behind .turned ≡ w .turned + 1
-  unfolding outOfSubring
-  behind-turned = refl
+    -- and it is behind it
+    behind-turned : w .turned < behind .turned
+    unfolding enters leaves
+    behind-turned = omega (arith, g .later .turned)
 
-  -- it leaves what is behind the junction
-  later-junction : Later w behind
-  unfolding intoSubring outOfSubring
-  later-junction =
-      let i = inner .later in
-      record {
-        further = i .further;
-        turned = omega arith;
-        nodes = i .nodes;
-        events = i .events;
-        junctions = λ n l. getD-set-other (w .junctions) (w .turned) n _ restJunction (omega arith);
-        node-places = i .node-places;
-        event-places = i .event-places;
-        junction-places = length-set (w .junctions) (w .turned) _;
-      }
+    -- what has what z left since the junction has what the walk left at the subring's end
+    between-within : (z x : Walk) → Later behind z → Between w z x → Between (enters s w) within x
+    unfolding enters leaves
+    between-within z x l b =
+        record {
+          nodes = λ n low high. b .nodes n low (omega (arith, l .further)) ∙ l .nodes n high;
+          events = λ n low high. b .events n low (omega (arith, l .further)) ∙ l .events n high;
+          junctions = λ n low high.
+              b .junctions n (omega arith) (omega (arith, l .turned)) ∙ l .junctions n high
+              ∙ getD-set-other (within .junctions) (w .turned) n _ restJunction (omega arith);
+        }
 
-  -- a walk that went on from behind the junction went on from its subring's end
-  later-inside : (x : Walk) → Later behind x → Later inside x
-  unfolding intoSubring outOfSubring
-  later-inside x l =
-      let t : inside .turned ≡ w .turned = users-turned s v (intoSubring s w) in
-      let j : inside .junctions ≡ w .junctions = users-junctions s v (intoSubring s w) in
-      record {
-        further = l .further;
-        turned = omega (arith, l .turned);
-        nodes = l .nodes;
-        events = l .events;
-        junctions = λ n below.
-            l .junctions n (omega arith) ∙ getD-set-other (w .junctions) (w .turned) n _ restJunction (omega arith)
-            ∙ ap (λ (js : List Junction). getD js n restJunction) (sym j);
-        node-places = l .node-places;
-        event-places = l .event-places;
-        junction-places = l .junction-places ∙ length-set (w .junctions) (w .turned) _ ∙ ap length (sym j);
-      }
+    -- there is room at the subring's end where there is room behind
+    room-within : (z : Walk) → Later behind z → Room z → Room within
+    unfolding leaves
+    room-within z l f =
+        let same : length (behind .junctions) ≡ length (within .junctions) = length-set (within .junctions) (w .turned) _ in
+        record {
+          nodes = omega (arith, l .further, f .nodes, l .node-places);
+          events = omega (arith, l .further, f .events, l .event-places);
+          junctions = omega (arith, l .turned, f .junctions, l .junction-places);
+        }
 
-  -- what any later walk has of the junction
-  junction-after : (x : Walk) → Room x → Later behind x → getD (x .junctions) (w .turned) restJunction
-      ≡ junctionTurn false (w .passed) (w .passed + size users) (wanting users) (w .last) (out (here .subring) users) here
-  unfolding intoSubring outOfSubring junctionHere
-  junction-after x f l =
-      l .junctions (w .turned) (omega arith)
-      ∙ getD-set-same (w .junctions) (w .turned) _ restJunction (omega (arith, l .turned, f .junctions, l .junction-places, later-junction .junction-places))
-      ∙ ap₂ (λ (n : ℕ) (b : Bool). junctionTurn false (w .passed) (w .passed + n) b (w .last) (inside .last) here)
-      (sym (users-size (s .nodes) (w .passed) v)) (wanted-users s (w .passed) v)
-      ∙ ap (λ (c : Car). junctionTurn false (w .passed) (w .passed + size users) (wanting users) (w .last) c here) (inner .last)
+    -- the turn that the model takes is the line's
+    its-turn : junctionTurn inner (w .passed) (w .passed + nodesIn subring) (wanted s (w .passed) (nodesIn subring)) (w .last) (within .last) here ≡ turns
+    unfolding enters junctionHere
+    its-turn =
+        ap₂ (λ (n : ℕ) (b : Bool). junctionTurn inner (w .passed) (w .passed + n) b (w .last) (within .last) here)
+        (sym (line-nodes subring (s .nodes) (s .junctions) (w .passed) (w .turned + 1))) (wanted-line s subring (w .passed) (w .turned + 1))
+        ∙ ap (λ (c : Car). junctionTurn inner (w .passed) (w .passed + size users) (wanting users) (w .last) c here) (g .last)
 
-  -- through the junction and what is behind it
-  pub through-junction : (rest : Part) (z : Walk) → Through s false rest behind z
-      → Through s false (λ ns js. junction (getD js (w .turned) restJunction) (usersFrom ns (w .passed) v) (rest ns js)) w z
-  unfolding intoSubring outOfSubring junctionHere
-  through-junction rest z t =
-      let m : ℕ = s .plan .rules in
-      let r : Line = rest (s .nodes) (s .junctions) in
-      record {
-        last = t .last;
-        astray = t .astray ∙ ap₂ (λ (b : Bool) (k : ℕ). b || strays k (here .main) r) (inner .astray) (inner .passed) ∙ or-assoc (w .astray) _ _;
-        passed = omega (arith, t .passed, inner .passed);
-        later = later-then w behind z later-junction (t .later);
-        after = λ x f l.
-            let n = later-then behind z x (t .later) l in
-            let i = inner .after x f (later-inside x n) in
-            let o = t .after x f l in
-            record {
-              line = ap₂ (λ (j : Junction) (q : Line). junction j q (rest (x .nodes) (x .junctions))) (junction-after x f n) (i .line)
-                  ∙ ap (λ (q : Line). junction (junctionTurn false (w .passed) (w .passed + size users) (wanting users) (w .last) (out (here .subring) users) here)
-                  (stepLine m true (w .passed) (here .subring) users) q) (o .line ∙ ap (λ (k : ℕ). stepLine m false k (here .main) r) (inner .passed));
-              acts = (i .acts, subst (λ (k : ℕ). Meets (Made s x) k (here .main) r) (inner .passed) (o .acts));
-            };
-      }
+    -- what a walk that has what z left has of the junction
+    junction-after : (z x : Walk) → Room z → Later behind z → Between w z x → getD (x .junctions) (w .turned) restJunction ≡ turns
+    unfolding leaves junctionHere
+    junction-after z x f l b =
+        b .junctions (w .turned) (omega arith) (omega (arith, behind-turned, l .turned))
+        ∙ l .junctions (w .turned) behind-turned
+        ∙ getD-set-same (within .junctions) (w .turned) _ restJunction (omega (arith, behind-turned, room-within z l f .junctions))
+        ∙ its-turn
+
+    -- along the junction and what is behind it
+    goes-junction : (rest : Part) (z : Walk) → Goes s inner rest behind z
+        → Goes s inner (λ ns js. junction (getD js (w .turned) restJunction) (lineAt subring ns js (w .passed) (w .turned + 1)) (rest ns js)) w z
+    unfolding enters leaves junctionHere
+    goes-junction rest z t =
+        let m : ℕ = s .plan .rules in
+        let r : Line = rest (s .nodes) (s .junctions) in
+        record {
+          last = t .last;
+          astray = t .astray ∙ ap₂ (λ (b : Bool) (k : ℕ). b || strays k (here .main) r) (g .astray) (g .passed) ∙ or-assoc (w .astray) _ _;
+          passed = omega (arith, t .passed, g .passed);
+          later = later-then w behind z later-junction (t .later);
+          after = λ x f b.
+              let i = g .after x (room-within z (t .later) f) (between-within z x (t .later) b) in
+              let o = t .after x f (between-first w behind z x later-junction b) in
+              record {
+                line = ap₂ (λ (j : Junction) (q : Line). junction j q (rest (x .nodes) (x .junctions))) (junction-after z x f (t .later) b) (i .line)
+                    ∙ ap (λ (q : Line). junction turns (stepLine m true (w .passed) (here .subring) users) q)
+                    (o .line ∙ ap (λ (k : ℕ). stepLine m inner k (here .main) r) (g .passed));
+                acts = (i .acts, subst (λ (k : ℕ). Meets (Made s x) k (here .main) r) (g .passed) (o .acts));
+              };
+        }
+
+-- along a ring: the walk goes along the ring's line
+pub goes-along : (s : State) (inner : Bool) (t : Ring) (w : Walk) → Goes s inner (λ ns js. lineAt t ns js (w .passed) (w .turned)) w (along s inner t w)
+unfolding along enters leaves
+goes-along s inner noMore w = goes-end s inner w
+goes-along s inner (userNode rest) w =
+    subst (λ (v : Walk). Goes s inner (λ ns js. lineAt (userNode rest) ns js (w .passed) (w .turned)) w (along s inner rest v)) (sym (past-node s w))
+    (goes-node s inner (λ ns js. lineAt rest ns js (suc (w .passed)) (w .turned)) w _ (goes-along s inner rest (pastNode s w)))
+goes-along s inner (aJunction subring rest) w =
+    let v = behind s inner subring w in
+    goes-junction s inner subring w (goes-along s true subring (enters s w))
+    (λ ns js. lineAt rest ns js (w .passed + nodesIn subring) (w .turned + 1 + junctionsIn subring)) (along s inner rest v)
+    (subst₂ (λ (i j : ℕ). Goes s inner (λ ns js. lineAt rest ns js i j) v (along s inner rest v))
+    (along-passed s true subring (enters s w)) (along-turned s true subring (enters s w)) (goes-along s inner rest v))

@@ -11,13 +11,13 @@ use Rattle.nightfile.proofs.bodies.plan_values.Statement.{statement}
 use Rattle.nightfile.proofs.bodies.plan_values.Tie as tie
 
 abbrev Inv-loop : tie.InvT-loop
-Inv-loop body values₀ i₀ values i = record { below : i ≤ 16; kept : values ≡ valuesRead (drop 3 body) 16 i }
+Inv-loop body values₀ i₀ values i = record { below : i ≤ 352; kept : values ≡ valuesRead (drop 3 body) 352 i }
 
 abbrev μ-loop : tie.MeasureT-loop
-μ-loop body values₀ i₀ values i = 16 - i
+μ-loop body values₀ i₀ values i = 352 - i
 
 loop-holds : tie.Need-loop-holds Inv-loop μ-loop
-loop-holds c = record { below = search needs; kept = values-none _ 16 }
+loop-holds c = record { below = search needs; kept = values-none _ 352 }
 
 add-byte-at : tie.Need-add-byte-at Inv-loop μ-loop
 add-byte-at c = search needs
@@ -36,11 +36,11 @@ loop-less c = search needs
 
 loop-again : tie.Need-loop-again Inv-loop μ-loop
 unfolding byteAt
-loop-again c = record { below = search needs; kept = rw (c .before .before .loop .inv .kept, c .byte-at .ensures, ← getD-drop 3) (values-more _ 16 (c .before .before .loop .i) (omega arith)) }
+loop-again c = record { below = search needs; kept = rw (c .before .before .loop .inv .kept, c .byte-at .ensures, ← getD-drop 3) (values-more _ 352 (c .before .before .loop .i) (omega arith)) }
 
 returns : tie.Need-returns Inv-loop μ-loop
 unfolding planValues
-returns c = c .before .loop .inv .kept ∙ ap (valuesRead (drop 3 (c .before .before .before .args .body .now)) 16) (omega arith) ∙ values-done _ 16
+returns c = c .before .loop .inv .kept ∙ ap (valuesRead (drop 3 (c .before .before .before .args .body .now)) 352) (omega arith) ∙ values-done _ 352
 
 pub plan-values-spec : {M : Type 1} → statement M
 plan-values-spec =

@@ -1,29 +1,25 @@
--- `junctions` gives `junctionCount`: a plan in range meets what `junctions_before` requires.
-use mathlib.Core.Path.{sym, _∙_}
+use mathlib.Core.Path.{ap}
+use Rattle.positions.specs.declared.Survey.{Survey}
+use Rattle.plan.specs.Plan.{planSurvey}
+use native.Mathlib.Omega.{arith}
+use Rattle.plan.proofs.Laws.{junctions-most}
 use borrow.Author.Needs.{needs}
-use Rattle.plan.specs.Plan.{junctionCount}
-use Rattle.plan.proofs.Laws.{in-range}
 use Rattle.plan.proofs.Plan.junctions.Statement.{statement}
 use Rattle.plan.proofs.Plan.junctions.Tie as tie
 
-in-range-requires : tie.Need-in-range-requires
-in-range-requires c κs = search needs
+-- src/lib.rt:118:13
+survey-requires : tie.Need-survey-requires
+survey-requires c κs = search needs
 
-cast-junctions-before : tie.Need-cast-junctions-before
-cast-junctions-before c = search needs
+-- src/lib.rt:119:9
+cast-result : tie.Need-cast-result
+unfolding planSurvey
+cast-result c = omega (arith, ap (λ (s : Survey). s .junctions) (c .before .survey .ensures), junctions-most (c .before .before .args .self))
 
-junctions-before-requires : tie.Need-junctions-before-requires
-junctions-before-requires c κs = let range = in-range _ (sym (c .before .in-range .ensures) ∙ c .if1 .taken) in (range .positions-most, range .values)
-
+-- src/lib.rt:115:5
 returns : tie.Need-returns
-unfolding junctionCount
-returns c = simp (c .junctions-before .ensures, c .before .if1 .taken, ← c .before .before .in-range .ensures)
-
-returns-2 : tie.Need-returns-2
-unfolding junctionCount
-returns-2 c = simp (c .if1 .left, ← c .before .in-range .ensures)
+unfolding planSurvey
+returns c = ap (λ (s : Survey). s .junctions) (c .before .survey .ensures)
 
 pub junctions-spec : {M : Type 1} → statement M
-junctions-spec =
-    tie.close
-    (tie.spec in-range-requires cast-junctions-before junctions-before-requires returns returns-2)
+junctions-spec = tie.close (tie.spec survey-requires cast-result returns)

@@ -1,240 +1,293 @@
--- A step without 13: 14 where the queue would overflow, 15 where a car is astray, else what the walk leaves. The outer loop's invariant: the walk so far is the definition's up to this position. The inner
--- loop's: inside a subring it is the definition's up to this node of the subring, and so is what is known of who wants a train.
+-- A step along a route without 13: 14 where the queue would overflow, 15 where a car is astray, else what the trip leaves. The loop's invariant: what
+-- is still to come of the route gives, with the trip so far, the whole trip.
 use Prim.Native.Nat.{_-_}
+use mathlib.Core.Path.{_≡_, refl, sym, _∙_}
 use native.Mathlib.Omega.{arith}
 use borrow.Author.Needs.{needs}
-use mathlib.Core.Path.{sym, ap, _∙_}
-use mathlib.Core.Bool.{Bool, _||_}
+use lib.ListN.{length}
 use Rattle.lists.specs.Refusal.{refusedIf}
-use Rattle.plan.specs.Plan.{valueAt}
+use Rattle.route.proofs.Legs.{node-bound, into-bound, out-bound}
 use Rattle.ring.specs.State.{restNode, restJunction}
-use Rattle.ring.specs.Step.{moving, stepNumber, stepAnswerNumber}
-use Rattle.ring.specs.Walk.{quiet, nodeHere, junctionHere, turnHere, intoSubring, setOut}
-use Rattle.ring.proofs.Walking.{walkOf, Around, Inside, place-room, node-room, junction-room, inside-room, around-start, around-node, node-turned, inside-start, inside-node, around-junction, junction-turned, walked, moved}
+use Rattle.ring.specs.Walk.{quiet}
+use Rattle.ring.specs.Step.{stepAnswerNumber}
+use Rattle.ring.specs.Trip.{sets-out, unopened, tripNumber, movingAlong}
+use Rattle.ring.proofs.Going.{tripOf, Reached, reached-start, reached-next, past-nowhere, past-node, into-junction, out-of-junction, arrived, moved}
 use Rattle.ring.proofs.State.moving.Statement.{statement}
 use Rattle.ring.proofs.State.moving.Tie as tie
 
-abbrev Inv-loop2 : tie.InvT-loop2
-Inv-loop2 self plan zeroth rules positions nodes₀ events₀ junctions last₀ astray₀ passed₀ turned place value junction arrival low wants₀ k₀ nodes events last astray passed wants k =
-    Inside self value low k wants (walkOf passed₀ turned last₀ astray₀ nodes₀ events₀ junctions) (walkOf passed turned last astray nodes events junctions)
-
-abbrev μ-loop2 : tie.MeasureT-loop2
-μ-loop2 self plan zeroth rules positions nodes₀ events₀ junctions last₀ astray₀ passed₀ turned place value junction arrival low wants₀ k₀ nodes events last astray passed wants k =
-    value - k
-
 abbrev Inv-loop : tie.InvT-loop
-Inv-loop self plan zeroth rules positions nodes₀ events₀ junctions₀ last₀ astray₀ passed₀ turned₀ place₀ nodes events junctions last astray passed turned place =
-    Around self place (walkOf passed turned last astray nodes events junctions)
+Inv-loop route self zeroth rules next₀ events₀ opened₀ last₀ astray₀ wants₀ passed₀ i₀ next events opened last astray wants passed i =
+    record { at : Reached self route i (tripOf passed last astray wants (next .nodes) events (next .junctions) opened); kept : next .plan ≡ self .plan }
 
 abbrev μ-loop : tie.MeasureT-loop
-μ-loop self plan zeroth rules positions nodes₀ events₀ junctions₀ last₀ astray₀ passed₀ turned₀ place₀ nodes events junctions last astray passed turned place =
-    positions - place
+μ-loop route self zeroth rules next₀ events₀ opened₀ last₀ astray₀ wants₀ passed₀ i₀ next events opened last astray wants passed i =
+    length route - i
 
-loop-holds : tie.Need-loop-holds Inv-loop2 μ-loop2 Inv-loop μ-loop
-unfolding setOut quiet
-loop-holds c = around-start (c .before .before .before .before .args .t1) (c .before .before .before .before .pre)
+-- src/walking.rt:49:9
+loop-holds : tie.Need-loop-holds Inv-loop μ-loop
+unfolding sets-out quiet unopened
+loop-holds c = record { at = reached-start _ _; kept = refl }
 
-cast-value : tie.Need-cast-value Inv-loop2 μ-loop2 Inv-loop μ-loop
-cast-value c = omega (arith, place-room _ _ _ (c .before .loop .inv) (c .loop-test .taken))
+-- src/walking.rt:50:37
+mul-leg-of : tie.Need-mul-leg-of Inv-loop μ-loop
+mul-leg-of c = search needs
 
-element-copy-out-value : tie.Need-element-copy-out-value Inv-loop2 μ-loop2 Inv-loop μ-loop
-element-copy-out-value c = place-room _ _ _ (c .before .loop .inv) (c .loop-test .taken)
+-- src/walking.rt:50:37
+shared-slice-read-leg-of : tie.Need-shared-slice-read-leg-of Inv-loop μ-loop
+shared-slice-read-leg-of c = search needs
 
-cast-node : tie.Need-cast-node Inv-loop2 μ-loop2 Inv-loop μ-loop
-cast-node c = omega (arith, node-room _ _ _ (c .before .before .before .loop .inv) (c .before .before .loop-test .taken))
+-- src/walking.rt:50:17
+leg-of-requires : tie.Need-leg-of-requires Inv-loop μ-loop
+leg-of-requires c κs = search needs
 
-mul-node : tie.Need-mul-node Inv-loop2 μ-loop2 Inv-loop μ-loop
-mul-node c = omega (arith, node-room _ _ _ (c .before .before .before .loop .inv) (c .before .before .loop-test .taken))
+-- src/walking.rt:53:21
+enum-told : tie.Need-enum-told Inv-loop μ-loop
+enum-told c = search needs
 
-element-copy-out-node : tie.Need-element-copy-out-node Inv-loop2 μ-loop2 Inv-loop μ-loop
-element-copy-out-node c = node-room _ _ _ (c .before .before .before .loop .inv) (c .before .before .loop-test .taken)
+-- src/walking.rt:53:21
+add-i : tie.Need-add-i Inv-loop μ-loop
+add-i c = search needs
 
-add-turn-of : tie.Need-add-turn-of Inv-loop2 μ-loop2 Inv-loop μ-loop
-add-turn-of c = omega (arith, node-room _ _ _ (c .before .before .before .before .loop .inv) (c .before .before .before .loop-test .taken))
+-- src/walking.rt:49:9
+loop-less : tie.Need-loop-less Inv-loop μ-loop
+loop-less c = search needs
 
-turn-of-requires : tie.Need-turn-of-requires Inv-loop2 μ-loop2 Inv-loop μ-loop
+-- src/walking.rt:49:9
+loop-again : tie.Need-loop-again Inv-loop μ-loop
+loop-again c = record { at = reached-next _ _ _ _ _ _ (c .before .before .before .before .before .loop .inv .at) (c .before .before .before .before .loop-test .taken) (sym (c .enum-told .given .1) ∙ c .before .before .leg-of .ensures) (past-nowhere _ _); kept = c .before .before .before .before .before .loop .inv .kept }
+
+-- src/walking.rt:55:25
+enum-known-leg : tie.Need-enum-known-leg Inv-loop μ-loop
+enum-known-leg c = search needs
+
+-- src/walking.rt:56:43
+cast-node : tie.Need-cast-node Inv-loop μ-loop
+cast-node c = search needs
+
+-- src/walking.rt:56:32
+mul-node : tie.Need-mul-node Inv-loop μ-loop
+mul-node c = search needs
+
+-- src/walking.rt:56:32
+element-copy-out-node : tie.Need-element-copy-out-node Inv-loop μ-loop
+element-copy-out-node c = node-bound _ _ (sym (c .before .before .before .leg-of .ensures) ∙ c .before .leg .given .1)
+
+-- src/walking.rt:57:60
+add-turn-of : tie.Need-add-turn-of Inv-loop μ-loop
+add-turn-of c = omega (arith, node-bound _ _ (sym (c .before .before .before .before .leg-of .ensures) ∙ c .before .before .leg .given .1))
+
+-- src/walking.rt:57:25
+turn-of-requires : tie.Need-turn-of-requires Inv-loop μ-loop
 turn-of-requires c κs = search needs
 
-add-astray : tie.Need-add-astray Inv-loop2 μ-loop2 Inv-loop μ-loop
-add-astray c = omega (arith, node-room _ _ _ (c .before .before .before .before .before .loop .inv) (c .before .before .before .before .loop-test .taken))
+-- src/walking.rt:58:57
+add-astray : tie.Need-add-astray Inv-loop μ-loop
+add-astray c = omega (arith, node-bound _ _ (sym (c .before .before .before .before .before .leg-of .ensures) ∙ c .before .before .before .leg .given .1))
 
-astray-requires : tie.Need-astray-requires Inv-loop2 μ-loop2 Inv-loop μ-loop
+-- src/walking.rt:58:45
+astray-requires : tie.Need-astray-requires Inv-loop μ-loop
 astray-requires c κs = search needs
 
-either-requires : tie.Need-either-requires Inv-loop2 μ-loop2 Inv-loop μ-loop
+-- src/walking.rt:58:21
+either-requires : tie.Need-either-requires Inv-loop μ-loop
 either-requires c κs = search needs
 
-cast-nodes : tie.Need-cast-nodes Inv-loop2 μ-loop2 Inv-loop μ-loop
-cast-nodes c = omega (arith, node-room _ _ _ (c .before .before .before .before .before .before .before .before .loop .inv) (c .before .before .before .before .before .before .before .loop-test .taken))
-
-mul-nodes : tie.Need-mul-nodes Inv-loop2 μ-loop2 Inv-loop μ-loop
-mul-nodes c = omega (arith, node-room _ _ _ (c .before .before .before .before .before .before .before .before .loop .inv) (c .before .before .before .before .before .before .before .loop-test .taken))
-
-array-set-from-nodes : tie.Need-array-set-from-nodes Inv-loop2 μ-loop2 Inv-loop μ-loop
-array-set-from-nodes c = node-room _ _ _ (c .before .before .before .before .before .before .before .before .loop .inv) (c .before .before .before .before .before .before .before .loop-test .taken)
-
-cast-events : tie.Need-cast-events Inv-loop2 μ-loop2 Inv-loop μ-loop
-cast-events c = omega (arith, node-room _ _ _ (c .before .before .before .before .before .before .before .before .loop .inv) (c .before .before .before .before .before .before .before .loop-test .taken))
-
-mul-events : tie.Need-mul-events Inv-loop2 μ-loop2 Inv-loop μ-loop
-mul-events c = omega (arith, node-room _ _ _ (c .before .before .before .before .before .before .before .before .loop .inv) (c .before .before .before .before .before .before .before .loop-test .taken))
-
-array-set-from-events : tie.Need-array-set-from-events Inv-loop2 μ-loop2 Inv-loop μ-loop
-array-set-from-events c = node-room _ _ _ (c .before .before .before .before .before .before .before .before .loop .inv) (c .before .before .before .before .before .before .before .loop-test .taken)
-
-add-passed : tie.Need-add-passed Inv-loop2 μ-loop2 Inv-loop μ-loop
-add-passed c = omega (arith, node-room _ _ _ (c .before .before .before .before .before .before .before .before .loop .inv) (c .before .before .before .before .before .before .before .loop-test .taken))
-
-add-place : tie.Need-add-place Inv-loop2 μ-loop2 Inv-loop μ-loop
-add-place c = omega (arith, place-room _ _ _ (c .before .before .before .before .before .before .before .before .loop .inv) (c .before .before .before .before .before .before .before .loop-test .taken))
-
-loop-less : tie.Need-loop-less Inv-loop2 μ-loop2 Inv-loop μ-loop
-loop-less c = omega (arith, c .before .before .before .before .before .before .before .loop-test .taken)
-
-loop-again : tie.Need-loop-again Inv-loop2 μ-loop2 Inv-loop μ-loop
-unfolding valueAt turnHere nodeHere restNode
-loop-again c =
-    around-node _ _ _ (c .before .before .before .before .before .before .before .before .loop .inv) (c .before .before .before .before .before .before .before .loop-test .taken) _ (c .before .before .before .before .before .if1 .taken)
-    (node-turned _ _ _ _ _ (c .before .before .before .turn-of .ensures) (c .before .before .astray .ensures) (c .before .either .ensures))
-
-cast-junction : tie.Need-cast-junction Inv-loop2 μ-loop2 Inv-loop μ-loop
-cast-junction c = omega (arith, junction-room _ _ _ (c .before .before .before .loop .inv) (c .before .before .loop-test .taken))
-
-mul-junction : tie.Need-mul-junction Inv-loop2 μ-loop2 Inv-loop μ-loop
-mul-junction c = omega (arith, junction-room _ _ _ (c .before .before .before .loop .inv) (c .before .before .loop-test .taken))
-
-element-copy-out-junction : tie.Need-element-copy-out-junction Inv-loop2 μ-loop2 Inv-loop μ-loop
-element-copy-out-junction c = junction-room _ _ _ (c .before .before .before .loop .inv) (c .before .before .loop-test .taken)
-
-loop2-holds : tie.Need-loop2-holds Inv-loop2 μ-loop2 Inv-loop μ-loop
-unfolding intoSubring junctionHere restJunction valueAt
-loop2-holds c = inside-start _ _ _ (c .before .before .before .before .loop .inv) (c .before .before .before .loop-test .taken) (c .before .before .before .before .before .before .before .before .before .pre)
-
-cast-node-2 : tie.Need-cast-node-2 Inv-loop2 μ-loop2 Inv-loop μ-loop
-cast-node-2 c = omega (arith, inside-room _ _ _ _ _ _ _ (c .before .loop2 .inv) (c .loop2-test .taken))
-
-mul-node-2 : tie.Need-mul-node-2 Inv-loop2 μ-loop2 Inv-loop μ-loop
-mul-node-2 c = omega (arith, inside-room _ _ _ _ _ _ _ (c .before .loop2 .inv) (c .loop2-test .taken))
-
-element-copy-out-node-2 : tie.Need-element-copy-out-node-2 Inv-loop2 μ-loop2 Inv-loop μ-loop
-element-copy-out-node-2 c = inside-room _ _ _ _ _ _ _ (c .before .loop2 .inv) (c .loop2-test .taken)
-
-add-turn-of-2 : tie.Need-add-turn-of-2 Inv-loop2 μ-loop2 Inv-loop μ-loop
-add-turn-of-2 c = omega (arith, inside-room _ _ _ _ _ _ _ (c .before .before .loop2 .inv) (c .before .loop2-test .taken))
-
-turn-of-requires-2 : tie.Need-turn-of-requires-2 Inv-loop2 μ-loop2 Inv-loop μ-loop
-turn-of-requires-2 c κs = search needs
-
-add-astray-2 : tie.Need-add-astray-2 Inv-loop2 μ-loop2 Inv-loop μ-loop
-add-astray-2 c = omega (arith, inside-room _ _ _ _ _ _ _ (c .before .before .before .loop2 .inv) (c .before .before .loop2-test .taken))
-
-astray-requires-2 : tie.Need-astray-requires-2 Inv-loop2 μ-loop2 Inv-loop μ-loop
-astray-requires-2 c κs = search needs
-
-either-requires-2 : tie.Need-either-requires-2 Inv-loop2 μ-loop2 Inv-loop μ-loop
-either-requires-2 c κs = search needs
-
-wants-train-requires : tie.Need-wants-train-requires Inv-loop2 μ-loop2 Inv-loop μ-loop
+-- src/walking.rt:59:43
+wants-train-requires : tie.Need-wants-train-requires Inv-loop μ-loop
 wants-train-requires c κs = search needs
 
-either-requires-3 : tie.Need-either-requires-3 Inv-loop2 μ-loop2 Inv-loop μ-loop
-either-requires-3 c κs = search needs
+-- src/walking.rt:59:21
+either-requires-2 : tie.Need-either-requires-2 Inv-loop μ-loop
+either-requires-2 c κs = search needs
 
-cast-nodes-2 : tie.Need-cast-nodes-2 Inv-loop2 μ-loop2 Inv-loop μ-loop
-cast-nodes-2 c = omega (arith, inside-room _ _ _ _ _ _ _ (c .before .before .before .before .before .before .before .before .loop2 .inv) (c .before .before .before .before .before .before .before .loop2-test .taken))
+-- src/walking.rt:62:32
+cast-after : tie.Need-cast-after Inv-loop μ-loop
+cast-after c = search needs
 
-mul-nodes-2 : tie.Need-mul-nodes-2 Inv-loop2 μ-loop2 Inv-loop μ-loop
-mul-nodes-2 c = omega (arith, inside-room _ _ _ _ _ _ _ (c .before .before .before .before .before .before .before .before .loop2 .inv) (c .before .before .before .before .before .before .before .loop2-test .taken))
+-- src/walking.rt:62:21
+mul-after : tie.Need-mul-after Inv-loop μ-loop
+mul-after c = search needs
 
-array-set-from-nodes-2 : tie.Need-array-set-from-nodes-2 Inv-loop2 μ-loop2 Inv-loop μ-loop
-array-set-from-nodes-2 c = inside-room _ _ _ _ _ _ _ (c .before .before .before .before .before .before .before .before .loop2 .inv) (c .before .before .before .before .before .before .before .loop2-test .taken)
+-- src/walking.rt:62:21
+element-set-from-after : tie.Need-element-set-from-after Inv-loop μ-loop
+element-set-from-after c = node-bound _ _ (sym (c .before .before .before .before .before .before .before .before .before .before .leg-of .ensures) ∙ c .before .before .before .before .before .before .before .before .leg .given .1)
 
-cast-events-2 : tie.Need-cast-events-2 Inv-loop2 μ-loop2 Inv-loop μ-loop
-cast-events-2 c = omega (arith, inside-room _ _ _ _ _ _ _ (c .before .before .before .before .before .before .before .before .loop2 .inv) (c .before .before .before .before .before .before .before .loop2-test .taken))
+-- src/walking.rt:63:28
+cast-events : tie.Need-cast-events Inv-loop μ-loop
+cast-events c = search needs
 
-mul-events-2 : tie.Need-mul-events-2 Inv-loop2 μ-loop2 Inv-loop μ-loop
-mul-events-2 c = omega (arith, inside-room _ _ _ _ _ _ _ (c .before .before .before .before .before .before .before .before .loop2 .inv) (c .before .before .before .before .before .before .before .loop2-test .taken))
+-- src/walking.rt:63:21
+mul-events : tie.Need-mul-events Inv-loop μ-loop
+mul-events c = search needs
 
-array-set-from-events-2 : tie.Need-array-set-from-events-2 Inv-loop2 μ-loop2 Inv-loop μ-loop
-array-set-from-events-2 c = inside-room _ _ _ _ _ _ _ (c .before .before .before .before .before .before .before .before .loop2 .inv) (c .before .before .before .before .before .before .before .loop2-test .taken)
+-- src/walking.rt:63:21
+array-set-from-events : tie.Need-array-set-from-events Inv-loop μ-loop
+array-set-from-events c = node-bound _ _ (sym (c .before .before .before .before .before .before .before .before .before .before .leg-of .ensures) ∙ c .before .before .before .before .before .before .before .before .leg .given .1)
 
-add-passed-2 : tie.Need-add-passed-2 Inv-loop2 μ-loop2 Inv-loop μ-loop
-add-passed-2 c = omega (arith, inside-room _ _ _ _ _ _ _ (c .before .before .before .before .before .before .before .before .loop2 .inv) (c .before .before .before .before .before .before .before .loop2-test .taken))
+-- src/walking.rt:65:30
+add-passed : tie.Need-add-passed Inv-loop μ-loop
+add-passed c = omega (arith, node-bound _ _ (sym (c .before .before .before .before .before .before .before .before .before .before .leg-of .ensures) ∙ c .before .before .before .before .before .before .before .before .leg .given .1))
 
-add-k : tie.Need-add-k Inv-loop2 μ-loop2 Inv-loop μ-loop
-add-k c = omega (arith, c .before .before .before .before .before .before .before .before .loop2 .inv .size-most, c .before .before .before .before .before .before .before .loop2-test .taken)
+-- src/walking.rt:66:21
+add-i-2 : tie.Need-add-i-2 Inv-loop μ-loop
+add-i-2 c = search needs
 
-loop2-less : tie.Need-loop2-less Inv-loop2 μ-loop2 Inv-loop μ-loop
-loop2-less c = omega (arith, c .before .before .before .before .before .before .before .loop2-test .taken)
+-- src/walking.rt:49:9
+loop-less-2 : tie.Need-loop-less-2 Inv-loop μ-loop
+loop-less-2 c = search needs
 
-loop2-again : tie.Need-loop2-again Inv-loop2 μ-loop2 Inv-loop μ-loop
-unfolding turnHere nodeHere restNode
-loop2-again c =
-    inside-node _ _ _ _ _ _ _ _ _ (c .before .before .before .before .before .before .before .before .loop2 .inv) (c .before .before .before .before .before .before .before .loop2-test .taken) (c .before .either3 .ensures ∙ ap (λ (b : Bool). c .before .before .before .before .before .before .before .before .loop2 .wants || b) (c .before .before .wants-train .ensures))
-    (node-turned _ _ _ _ _ (c .before .before .before .before .before .turn-of2 .ensures) (c .before .before .before .before .astray2 .ensures) (c .before .before .before .either2 .ensures))
+-- src/walking.rt:49:9
+loop-again-2 : tie.Need-loop-again-2 Inv-loop μ-loop
+unfolding restNode
+loop-again-2 c = record { at = reached-next _ _ _ _ _ _ (c .before .before .before .before .before .before .before .before .before .before .before .before .before .loop .inv .at) (c .before .before .before .before .before .before .before .before .before .before .before .before .loop-test .taken) (sym (c .before .before .before .before .before .before .before .before .leg .given .1) ∙ c .before .before .before .before .before .before .before .before .before .before .leg-of .ensures) (past-node _ _ _ _ _ _ _ _ (c .before .before .before .before .before .turn-of .ensures) (c .before .before .before .before .astray .ensures) (c .before .before .before .either .ensures) (c .before .before .wants-train .ensures) (c .before .either2 .ensures)); kept = c .before .before .before .before .before .before .before .before .before .before .before .before .before .loop .inv .kept }
 
-turn-requires : tie.Need-turn-requires Inv-loop2 μ-loop2 Inv-loop μ-loop
+-- src/walking.rt:68:27
+enum-known-leg-2 : tie.Need-enum-known-leg-2 Inv-loop μ-loop
+enum-known-leg-2 c = search needs
+
+-- src/walking.rt:69:51
+cast-junction : tie.Need-cast-junction Inv-loop μ-loop
+cast-junction c = search needs
+
+-- src/walking.rt:69:36
+mul-junction : tie.Need-mul-junction Inv-loop μ-loop
+mul-junction c = search needs
+
+-- src/walking.rt:69:36
+element-copy-out-junction : tie.Need-element-copy-out-junction Inv-loop μ-loop
+element-copy-out-junction c = into-bound _ _ (sym (c .before .before .before .leg-of .ensures) ∙ c .before .leg2 .given .1)
+
+-- src/walking.rt:70:28
+cast-opened : tie.Need-cast-opened Inv-loop μ-loop
+cast-opened c = search needs
+
+-- src/walking.rt:70:21
+mul-opened : tie.Need-mul-opened Inv-loop μ-loop
+mul-opened c = search needs
+
+-- src/walking.rt:70:21
+array-set-from-opened : tie.Need-array-set-from-opened Inv-loop μ-loop
+array-set-from-opened c = into-bound _ _ (sym (c .before .before .before .before .leg-of .ensures) ∙ c .before .before .leg2 .given .1)
+
+-- src/walking.rt:77:21
+add-i-3 : tie.Need-add-i-3 Inv-loop μ-loop
+add-i-3 c = search needs
+
+-- src/walking.rt:49:9
+loop-less-3 : tie.Need-loop-less-3 Inv-loop μ-loop
+loop-less-3 c = search needs
+
+-- src/walking.rt:49:9
+loop-again-3 : tie.Need-loop-again-3 Inv-loop μ-loop
+unfolding restJunction
+loop-again-3 c = record { at = reached-next _ _ _ _ _ _ (c .before .before .before .before .before .before .before .loop .inv .at) (c .before .before .before .before .before .before .loop-test .taken) (sym (c .before .before .leg2 .given .1) ∙ c .before .before .before .before .leg-of .ensures) (into-junction _ _ _); kept = c .before .before .before .before .before .before .before .loop .inv .kept }
+
+-- src/walking.rt:79:26
+enum-known-leg-3 : tie.Need-enum-known-leg-3 Inv-loop μ-loop
+enum-known-leg-3 c = search needs
+
+-- src/walking.rt:80:51
+cast-junction-2 : tie.Need-cast-junction-2 Inv-loop μ-loop
+cast-junction-2 c = search needs
+
+-- src/walking.rt:80:36
+mul-junction-2 : tie.Need-mul-junction-2 Inv-loop μ-loop
+mul-junction-2 c = search needs
+
+-- src/walking.rt:80:36
+element-copy-out-junction-2 : tie.Need-element-copy-out-junction-2 Inv-loop μ-loop
+element-copy-out-junction-2 c = out-bound _ _ _ (sym (c .before .before .before .leg-of .ensures) ∙ c .before .leg3 .given .1)
+
+-- src/walking.rt:81:39
+cast-open : tie.Need-cast-open Inv-loop μ-loop
+cast-open c = search needs
+
+-- src/walking.rt:81:32
+mul-open : tie.Need-mul-open Inv-loop μ-loop
+mul-open c = search needs
+
+-- src/walking.rt:81:32
+array-copy-out-open : tie.Need-array-copy-out-open Inv-loop μ-loop
+array-copy-out-open c = out-bound _ _ _ (sym (c .before .before .before .before .leg-of .ensures) ∙ c .before .before .leg3 .given .1)
+
+-- src/walking.rt:85:54
+turn-requires : tie.Need-turn-requires Inv-loop μ-loop
 turn-requires c κs = search needs
 
-cast-junctions : tie.Need-cast-junctions Inv-loop2 μ-loop2 Inv-loop μ-loop
-cast-junctions c = omega (arith, junction-room _ _ _ (c .before .before .before .before .before .before .before .loop .inv) (c .before .before .before .before .before .before .loop-test .taken))
+-- src/walking.rt:85:36
+cast-t58 : tie.Need-cast-t58 Inv-loop μ-loop
+cast-t58 c = search needs
 
-mul-junctions : tie.Need-mul-junctions Inv-loop2 μ-loop2 Inv-loop μ-loop
-mul-junctions c = omega (arith, junction-room _ _ _ (c .before .before .before .before .before .before .before .loop .inv) (c .before .before .before .before .before .before .loop-test .taken))
+-- src/walking.rt:85:21
+mul-t59 : tie.Need-mul-t59 Inv-loop μ-loop
+mul-t59 c = search needs
 
-array-set-from-junctions : tie.Need-array-set-from-junctions Inv-loop2 μ-loop2 Inv-loop μ-loop
-array-set-from-junctions c = junction-room _ _ _ (c .before .before .before .before .before .before .before .loop .inv) (c .before .before .before .before .before .before .loop-test .taken)
+-- src/walking.rt:85:21
+element-set-from-next : tie.Need-element-set-from-next Inv-loop μ-loop
+element-set-from-next c = out-bound _ _ _ (sym (c .before .before .before .before .before .before .leg-of .ensures) ∙ c .before .before .before .before .leg3 .given .1)
 
-add-turned : tie.Need-add-turned Inv-loop2 μ-loop2 Inv-loop μ-loop
-add-turned c = omega (arith, junction-room _ _ _ (c .before .before .before .before .before .before .before .loop .inv) (c .before .before .before .before .before .before .loop-test .taken))
+-- src/walking.rt:93:21
+either-requires-3 : tie.Need-either-requires-3 Inv-loop μ-loop
+either-requires-3 c κs = search needs
 
-add-place-2 : tie.Need-add-place-2 Inv-loop2 μ-loop2 Inv-loop μ-loop
-add-place-2 c = omega (arith, place-room _ _ _ (c .before .before .before .before .before .before .before .loop .inv) (c .before .before .before .before .before .before .loop-test .taken))
+-- src/walking.rt:95:21
+add-i-4 : tie.Need-add-i-4 Inv-loop μ-loop
+add-i-4 c = search needs
 
-loop-less-2 : tie.Need-loop-less-2 Inv-loop2 μ-loop2 Inv-loop μ-loop
-loop-less-2 c = omega (arith, c .before .before .before .before .before .before .loop-test .taken)
+-- src/walking.rt:49:9
+loop-less-4 : tie.Need-loop-less-4 Inv-loop μ-loop
+loop-less-4 c = search needs
 
-loop-again-2 : tie.Need-loop-again-2 Inv-loop2 μ-loop2 Inv-loop μ-loop
-unfolding valueAt intoSubring junctionHere restJunction
-loop-again-2 c =
-    around-junction _ _ _ _ _ _ _ (c .before .before .before .before .before .before .before .loop .inv) (c .before .before .before .before .before .before .loop-test .taken) (c .before .before .before .before .if1 .left) (c .before .before .loop2 .inv) (c .before .loop2-test .left)
-    (junction-turned _ _ _ _ _ _ _ _ (c .before .before .loop2 .inv) (c .before .loop2-test .left) (c .turn .ensures))
+-- src/walking.rt:49:9
+loop-again-4 : tie.Need-loop-again-4 Inv-loop μ-loop
+unfolding restJunction unopened
+loop-again-4 c = record { at = reached-next _ _ _ _ _ _ (c .before .before .before .before .before .before .before .before .before .before .loop .inv .at) (c .before .before .before .before .before .before .before .before .before .loop-test .taken) (sym (c .before .before .before .before .before .leg3 .given .1) ∙ c .before .before .before .before .before .before .before .leg-of .ensures) (out-of-junction _ _ _ _ _ _ (c .before .turn .ensures) (c .either3 .ensures)); kept = c .before .before .before .before .before .before .before .before .before .before .loop .inv .kept }
 
-overflows-requires : tie.Need-overflows-requires Inv-loop2 μ-loop2 Inv-loop μ-loop
+-- src/walking.rt:99:12
+overflows-requires : tie.Need-overflows-requires Inv-loop μ-loop
 overflows-requires c κs = search needs
 
-refused-requires : tie.Need-refused-requires Inv-loop2 μ-loop2 Inv-loop μ-loop
+-- src/walking.rt:100:13
+refused-requires : tie.Need-refused-requires Inv-loop μ-loop
 refused-requires c κs = search needs
 
-returns : tie.Need-returns Inv-loop2 μ-loop2 Inv-loop μ-loop
-unfolding moving stepNumber refusedIf stepAnswerNumber
-returns c = simp (c .refused .ensures, c .before .if2 .taken, ← c .before .before .overflows .ensures, ← walked _ _ _ (c .before .before .before .before .loop .inv) (c .before .before .before .loop-test .left))
+-- src/walking.rt:100:13
+returns : tie.Need-returns Inv-loop μ-loop
+unfolding movingAlong tripNumber refusedIf stepAnswerNumber
+returns c = simp (c .refused .ensures, c .before .if1 .taken, ← c .before .before .overflows .ensures, ← arrived _ _ _ _ (c .before .before .before .before .loop .inv .at) (c .before .before .before .loop-test .left))
 
-refused-requires-2 : tie.Need-refused-requires-2 Inv-loop2 μ-loop2 Inv-loop μ-loop
+-- src/walking.rt:103:13
+refused-requires-2 : tie.Need-refused-requires-2 Inv-loop μ-loop
 refused-requires-2 c κs = search needs
 
-returns-2 : tie.Need-returns-2 Inv-loop2 μ-loop2 Inv-loop μ-loop
-unfolding moving stepNumber refusedIf stepAnswerNumber
-returns-2 c = simp (c .refused2 .ensures, c .before .if3 .taken, c .before .before .if2 .left, ← c .before .before .before .overflows .ensures, ← walked _ _ _ (c .before .before .before .before .before .loop .inv) (c .before .before .before .before .loop-test .left))
+-- src/walking.rt:103:13
+returns-2 : tie.Need-returns-2 Inv-loop μ-loop
+unfolding movingAlong tripNumber refusedIf stepAnswerNumber
+returns-2 c = simp (c .refused2 .ensures, c .before .if2 .taken, c .before .before .if1 .left, ← c .before .before .before .overflows .ensures, ← arrived _ _ _ _ (c .before .before .before .before .before .loop .inv .at) (c .before .before .before .before .loop-test .left))
 
-turn-requires-2 : tie.Need-turn-requires-2 Inv-loop2 μ-loop2 Inv-loop μ-loop
+-- src/walking.rt:105:23
+turn-requires-2 : tie.Need-turn-requires-2 Inv-loop μ-loop
 turn-requires-2 c κs = search needs
 
-returns-3 : tie.Need-returns-3 Inv-loop2 μ-loop2 Inv-loop μ-loop
-returns-3 c =
-    moved _ _ _ (walked _ _ _ (c .before .before .before .before .before .loop .inv) (c .before .before .before .before .loop-test .left)) (sym (c .before .before .before .overflows .ensures) ∙ c .before .before .if2 .left) (c .before .if3 .left) (c .turn2 .ensures)
+-- src/walking.rt:30:5
+returns-3 : tie.Need-returns-3 Inv-loop μ-loop
+returns-3 c = moved _ _ _ _ _ (arrived _ _ _ _ (c .before .before .before .before .before .loop .inv .at) (c .before .before .before .before .loop-test .left)) (c .before .before .before .before .before .loop .inv .kept) (sym (c .before .before .before .overflows .ensures) ∙ c .before .before .if1 .left) (c .before .if2 .left) (c .turn2 .ensures)
 
 pub moving-spec : {M : Type 1} → statement M
 moving-spec =
     tie.close
     (tie.spec
-    Inv-loop2
-    μ-loop2
     Inv-loop
     μ-loop
     loop-holds
-    cast-value
-    element-copy-out-value
+    mul-leg-of
+    shared-slice-read-leg-of
+    leg-of-requires
+    enum-told
+    add-i
+    loop-less
+    loop-again
+    enum-known-leg
     cast-node
     mul-node
     element-copy-out-node
@@ -243,48 +296,43 @@ moving-spec =
     add-astray
     astray-requires
     either-requires
-    cast-nodes
-    mul-nodes
-    array-set-from-nodes
+    wants-train-requires
+    either-requires-2
+    cast-after
+    mul-after
+    element-set-from-after
     cast-events
     mul-events
     array-set-from-events
     add-passed
-    add-place
-    loop-less
-    loop-again
+    add-i-2
+    loop-less-2
+    loop-again-2
+    enum-known-leg-2
     cast-junction
     mul-junction
     element-copy-out-junction
-    loop2-holds
-    cast-node-2
-    mul-node-2
-    element-copy-out-node-2
-    add-turn-of-2
-    turn-of-requires-2
-    add-astray-2
-    astray-requires-2
-    either-requires-2
-    wants-train-requires
-    either-requires-3
-    cast-nodes-2
-    mul-nodes-2
-    array-set-from-nodes-2
-    cast-events-2
-    mul-events-2
-    array-set-from-events-2
-    add-passed-2
-    add-k
-    loop2-less
-    loop2-again
+    cast-opened
+    mul-opened
+    array-set-from-opened
+    add-i-3
+    loop-less-3
+    loop-again-3
+    enum-known-leg-3
+    cast-junction-2
+    mul-junction-2
+    element-copy-out-junction-2
+    cast-open
+    mul-open
+    array-copy-out-open
     turn-requires
-    cast-junctions
-    mul-junctions
-    array-set-from-junctions
-    add-turned
-    add-place-2
-    loop-less-2
-    loop-again-2
+    cast-t58
+    mul-t59
+    element-set-from-next
+    either-requires-3
+    add-i-4
+    loop-less-4
+    loop-again-4
     overflows-requires
     refused-requires
     returns

@@ -1,63 +1,55 @@
--- The test of a state (13): one part of the definition for each test, and a plan has at most 64 nodes and 16 junctions.
-use Rattle.ring.proofs.Laws.{nodes-most, junctions-most}
-use Rattle.ring.specs.Sound.{sound, zeroPasses}
+-- `sound` tests 13: the plan by its survey, then the zero node, the nodes and the junctions.
+use mathlib.Core.Path.{sym, ap, _∙_}
+use native.Mathlib.Omega.{arith}
+use Rattle.positions.specs.declared.Survey.{Survey}
+use Rattle.plan.specs.Plan.{planSurvey}
+use Rattle.plan.proofs.Laws.{nodes-most, junctions-most}
+use Rattle.ring.proofs.Laws.{sound-right, sound-wrong}
 use borrow.Author.Needs.{needs}
 use Rattle.ring.proofs.State.sound.Statement.{statement}
 use Rattle.ring.proofs.State.sound.Tie as tie
 
-in-range-requires : tie.Need-in-range-requires
-in-range-requires c κs = search needs
+-- src/soundness.rt:78:13
+survey-requires : tie.Need-survey-requires
+survey-requires c κs = search needs
 
-nodes-requires : tie.Need-nodes-requires
-nodes-requires c κs = search needs
+-- src/soundness.rt:79:12
+is-right-requires : tie.Need-is-right-requires
+is-right-requires c κs = search needs
 
-sound-requires : tie.Need-sound-requires
-sound-requires c κs = search needs
+-- src/soundness.rt:80:36
+cast-parts-pass : tie.Need-cast-parts-pass
+unfolding planSurvey
+cast-parts-pass c = omega (arith, ap (λ (s : Survey). s .nodes) (c .before .before .before .survey .ensures), nodes-most (c .before .before .before .before .before .args .self .plan))
 
-cast-nodes-pass : tie.Need-cast-nodes-pass
-cast-nodes-pass c = search needs
+-- src/soundness.rt:80:56
+cast-parts-pass-2 : tie.Need-cast-parts-pass-2
+unfolding planSurvey
+cast-parts-pass-2 c = omega (arith, ap (λ (s : Survey). s .junctions) (c .before .before .before .before .survey .ensures), junctions-most (c .before .before .before .before .before .before .args .self .plan))
 
-nodes-pass-requires : tie.Need-nodes-pass-requires
-nodes-pass-requires c κs = rw (c .before .before .before .nodes .ensures) (nodes-most _)
+-- src/soundness.rt:80:13
+parts-pass-requires : tie.Need-parts-pass-requires
+unfolding planSurvey
+parts-pass-requires c κs =
+    let plan = c .before .before .before .before .before .before .args .self .plan in
+    (omega (arith, ap (λ (s : Survey). s .nodes) (c .before .before .before .before .survey .ensures), nodes-most plan), omega (arith, ap (λ (s : Survey). s .junctions) (c .before .before .before .before .survey .ensures), junctions-most plan))
 
-junctions-requires : tie.Need-junctions-requires
-junctions-requires c κs = search needs
-
-cast-junctions-pass : tie.Need-cast-junctions-pass
-cast-junctions-pass c = search needs
-
-junctions-pass-requires : tie.Need-junctions-pass-requires
-junctions-pass-requires c κs = rw (c .junctions .ensures) (junctions-most _)
-
+-- src/soundness.rt:80:13
 returns : tie.Need-returns
-unfolding sound zeroPasses
-returns c = simp (c .junctions-pass .ensures, ← c .before .junctions .ensures, c .before .before .if3 .taken, ← c .before .before .before .nodes-pass .ensures, c .before .before .before .before .if2 .taken, ← c .before .before .before .before .before .sound .ensures, ← c .before .before .before .before .before .before .before .nodes .ensures, c .before .before .before .before .before .before .before .before .if1 .taken, ← c .before .before .before .before .before .before .before .before .before .in-range .ensures)
+returns c = sound-right _ _ _ (c .before .before .before .before .before .survey .ensures) (sym (c .before .before .before .before .is-right .ensures) ∙ c .before .before .before .if1 .taken) (c .parts-pass .ensures)
 
+-- src/soundness.rt:74:5
 returns-2 : tie.Need-returns-2
-unfolding sound zeroPasses
-returns-2 c = simp (c .if3 .left, ← c .before .nodes-pass .ensures, c .before .before .if2 .taken, ← c .before .before .before .sound .ensures, ← c .before .before .before .before .before .nodes .ensures, c .before .before .before .before .before .before .if1 .taken, ← c .before .before .before .before .before .before .before .in-range .ensures)
-
-returns-3 : tie.Need-returns-3
-unfolding sound zeroPasses
-returns-3 c = simp (c .if2 .left, ← c .before .sound .ensures, ← c .before .before .before .nodes .ensures, c .before .before .before .before .if1 .taken, ← c .before .before .before .before .before .in-range .ensures)
-
-returns-4 : tie.Need-returns-4
-unfolding sound
-returns-4 c = simp (c .if1 .left, ← c .before .in-range .ensures)
+returns-2 c = sound-wrong _ _ (c .before .before .survey .ensures) (sym (c .before .is-right .ensures) ∙ c .if1 .left)
 
 pub sound-spec : {M : Type 1} → statement M
 sound-spec =
     tie.close
     (tie.spec
-    in-range-requires
-    nodes-requires
-    sound-requires
-    cast-nodes-pass
-    nodes-pass-requires
-    junctions-requires
-    cast-junctions-pass
-    junctions-pass-requires
+    survey-requires
+    is-right-requires
+    cast-parts-pass
+    cast-parts-pass-2
+    parts-pass-requires
     returns
-    returns-2
-    returns-3
-    returns-4)
+    returns-2)
