@@ -1,3 +1,4 @@
 pub mod Laws
 pub mod Schedule
 pub mod FirstBad
+pub mod TheBody

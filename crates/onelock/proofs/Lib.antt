@@ -31,5 +31,6 @@ pub mod Step
 pub mod Whole
 pub mod State
 pub mod Run
+pub mod Real
 pub mod Theorems
 pub mod Examples

@@ -1,4 +1,4 @@
--- Demand 3: the sentences of specs/Theorems, proved of every accepted plan and every schedule.
+-- Demand 3: the sentences of specs/Theorems and specs/Shadows, proved of every accepted plan and every schedule.
 use Prim.Native.Nat.{ℕ, _+_, _≤_, _<_}
 use mathlib.Core.Path.{_≡_, refl, _∙_, ap, sym, subst}
 use mathlib.Core.Bool.{true, false, true≢false}
@@ -7,6 +7,7 @@ use native.Mathlib.Omega.{arith}
 use Rattle.onelock.specs.Theorems.{OnePlainLock, OneDeedAtATime, TimesAscend, StepsAtTheirNumber, ActionsBetweenSteps, DeedsHaveTheirTime}
 use Rattle.onelock.specs.Theorems.{ToursNest, NoNodeRewritesShadows, NoJunctionRewritesShadows}
 use Rattle.onelock.specs.Theorems.{TrueWords, NeverStuck, NeverBadState, ShortQueue, TheHolderHasIt, OnlyTheHolderHasIt}
+use Rattle.onelock.specs.Shadows.{OnlyRealCarsAreRewritten}
 use Rattle.lists.proofs.Tests.{by-value}
 use Rattle.plan.specs.declared.Plan.{Plan}
 use Rattle.plan.specs.Plan.{inRange, nodeCount, junctionCount}
@@ -22,6 +23,7 @@ use Rattle.onelock.proofs.Run.Items.{item-tells}
 use Rattle.onelock.proofs.Run.Histories.{follows}
 use Rattle.onelock.proofs.Run.Parts.{history-more}
 use Rattle.onelock.proofs.Run.Times.{ascend, placed}
+use Rattle.onelock.proofs.Real.Schedules.{rewrites-none}
 
 -- A
 pub one-plain-lock : OnePlainLock
@@ -81,6 +83,10 @@ no-node-rewrites-shadows plan r items junction node below inside tour arrival ta
 pub no-junction-rewrites-shadows : NoJunctionRewritesShadows
 no-junction-rewrites-shadows plan r items outer inner below stands tour low high wants arrival out tag =
     aside-fails-none (junctionAt (reached plan items) inner) (junctions-aside plan r items outer inner below stands tour) low high wants arrival out tag
+
+-- its strong form, of every car by itself
+pub only-real-cars-are-rewritten : OnlyRealCarsAreRewritten
+only-real-cars-are-rewritten = rewrites-none
 
 -- C
 pub never-stuck : NeverStuck

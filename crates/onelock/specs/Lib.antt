@@ -1,3 +1,4 @@
 pub mod OneLock
 pub mod Theorems
+pub mod Shadows
 pub mod Examples

@@ -9,18 +9,18 @@ use Rattle.positions.specs.declared.Position.the-variants.{Node, Users, 
 use Rattle.positions.specs.declared.Survey.{Survey}
 use Rattle.positions.specs.Ring.{Ring, noMore, userNode, aJunction, nodesIn, junctionsIn, usersOnly}
 
--- "then a count, 1 to 4"
+-- "then a count from 1 to 4"
 unfoldable pub counted : ℕ → Position
 counted count = cond (leb 1 count && leb count 4) (Listed count) Wrong
 
--- a junction, where one level more is allowed: "1 to 4: a junction with that many user nodes"; "5: a count follows"; above 5 there is nothing
+-- a junction, where one level more is allowed: "1 to 4, a junction with that many user nodes"; "5, then a count"; above 5 there is nothing
 unfoldable pub joined : Bool → List ℕ → ℕ → ℕ → Position
 joined deeper values place value =
     cond deeper
     (cond (leb value 4) (Users value) (cond (eqb value 5) (cond (ltb (place + 1) (length values)) (counted (getD values (place + 1) 0)) Wrong) Wrong))
     Wrong
 
--- what the position at a place is: "0: a user node"; nothing is read past the end
+-- what the position at a place is: "0, a user node"; nothing is read past the end
 unfoldable pub positionAt : Bool → List ℕ → ℕ → Position
 positionAt deeper values place =
     cond (ltb place (length values)) (cond (eqb (getD values place 0) 0) Node (joined deeper values place (getD values place 0))) Wrong

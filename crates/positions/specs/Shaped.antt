@@ -1,4 +1,5 @@
--- docs/NESTED.md, number 3, without a counter: the bytes of so many positions, "each byte 5 followed by a count byte and that many positions".
+-- docs/NESTED.md, number 3, without a counter: the bytes of so many positions; "any byte is a position by itself, but after a byte of 5 a count byte follows and brings that many
+-- positions more".
 use Prim.Native.Nat.{ℕ, suc}
 use mathlib.Core.Path.{_≡_}
 use mathlib.Core.List.{List, [], _∷_, _++_}

@@ -19,7 +19,7 @@ inForm zero (aJunction subring rest) = false
 inForm (suc levels) (aJunction subring rest) =
     leb 1 (positionsOn subring) && leb (positionsOn subring) 4 && inForm levels subring && inForm (suc levels) rest
 
--- the bytes by which a ring may be written: "0: a user node"; "1 to 4: a junction with that many user nodes"; "5, a count, that many positions"
+-- the bytes by which a ring may be written: "0, a user node"; "1 to 4, a junction with that many user nodes"; "5, then a count .., then that many positions"
 pub data Writes : Ring → List ℕ → Type 0 where
   no-byte : Writes noMore []
   a-zero : {rest : Ring} {bytes : List ℕ} → Writes rest bytes → Writes (userNode rest) (0 ∷ bytes)

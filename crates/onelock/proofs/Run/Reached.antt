@@ -34,7 +34,7 @@ unfolding stepping moving stepNumber refusedIf
 step-done s g = simp (g .pass, g .room, g .ready)
 
 -- the state after a step
-after-step : (s : State) → Good s → afterItem step s ≡ nextState s
+pub after-step : (s : State) → Good s → afterItem step s ≡ nextState s
 unfolding afterItem done
 after-step s g = ap (λ (t : StepTold). t .state) (step-done s g)
 
@@ -49,7 +49,7 @@ unfolding handedBack
 act-number action s node lock g = ap (λ (t : Told). t .number) (act-handed action s node lock g)
 
 -- the state after an action: accepted or as it was
-after-act : (action : Action) (s : State) (node lock : ℕ) → Good s
+pub after-act : (action : Action) (s : State) (node lock : ℕ) → Good s
     → afterItem (act action node lock) s ≡ cond (eqb (actionNumber action s node lock) 0) (actedState action s node lock) s
 unfolding afterItem handedBack
 after-act action s node lock g = ap (λ (t : Told). t .state) (act-handed action s node lock g)

@@ -48,11 +48,11 @@ formed-act action s node lock f = record { nodes = length-set (s .nodes) (node -
 -- one node of the list put anew: the line with the node of that number changed
 module _ (nodes : List Node) (q : ℕ) (f : Node → Node) (below : q < length nodes) where
   -- the list with that node put anew
-  abbrev anew : List Node
+  abbrev pub anew : List Node
   anew = set nodes q (f (getD nodes q restNode))
 
   -- a node of that list
-  node-anew : (i : ℕ) → getD anew i restNode ≡ cond (eqb (suc i) (suc q)) (f (getD nodes i restNode)) (getD nodes i restNode)
+  pub node-anew : (i : ℕ) → getD anew i restNode ≡ cond (eqb (suc i) (suc q)) (f (getD nodes i restNode)) (getD nodes i restNode)
   node-anew i = go (eqb (suc i) (suc q)) refl
     where
       go : (b : Bool) → eqb (suc i) (suc q) ≡ b → getD anew i restNode ≡ cond b (f (getD nodes i restNode)) (getD nodes i restNode)

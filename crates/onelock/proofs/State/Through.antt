@@ -78,7 +78,7 @@ pub between-self : (w v : Walk) → Between w v v
 between-self w v = record { nodes = λ n l h. refl; events = λ n l h. refl; junctions = λ n l h. refl }
 
 -- what has it since w and to z has it since v, where v is between them
-between-first : (w v z x : Walk) → Later w v → Between w z x → Between v z x
+pub between-first : (w v z x : Walk) → Later w v → Between w z x → Between v z x
 between-first w v z x l b =
     record {
       nodes = λ n low high. b .nodes n (omega (arith, l .further)) high;
@@ -127,15 +127,15 @@ goes-end s inner w =
     }
 
 -- the user node that a walk comes to
-abbrev came : State → Walk → Node
+abbrev pub came : State → Walk → Node
 came s w = getD (s .nodes) (w .passed) restNode
 
 -- that node's turn
-abbrev itsTurn : State → Walk → Turn
+abbrev pub itsTurn : State → Walk → Turn
 itsTurn s w = turn (s .plan .rules) (suc (w .passed)) (w .last) (came s w)
 
 -- the walk past it
-abbrev pastNode : State → Walk → Walk
+abbrev pub pastNode : State → Walk → Walk
 pastNode s w =
     record {
       passed = suc (w .passed);
@@ -148,7 +148,7 @@ pastNode s w =
     }
 
 -- the walk past a node is the model's
-past-node : (s : State) (w : Walk) → onNode s w ≡ pastNode s w
+pub past-node : (s : State) (w : Walk) → onNode s w ≡ pastNode s w
 unfolding onNode turnHere nodeHere
 past-node s w = simp add-one
 
@@ -167,7 +167,7 @@ later-node s w =
     }
 
 -- past the node and on to z: what a walk that has what z left has of that node
-node-after : (s : State) (w z x : Walk) → Room z → Later (pastNode s w) z → Between w z x → getD (x .nodes) (w .passed) restNode ≡ itsTurn s w .node
+pub node-after : (s : State) (w z x : Walk) → Room z → Later (pastNode s w) z → Between w z x → getD (x .nodes) (w .passed) restNode ≡ itsTurn s w .node
 node-after s w z x f l b =
     b .nodes (w .passed) (omega arith) (omega (arith, l .further))
     ∙ l .nodes (w .passed) (omega arith)
@@ -239,20 +239,25 @@ wanted-line s (aJunction subring rest) i j =
 -- past a junction, by how the walk goes along its subring
 module _ (s : State) (inner : Bool) (subring : Ring) (w : Walk) where
   -- the walk at the subring's end
-  abbrev within : Walk
+  abbrev pub within : Walk
   within = along s true subring (enters s w)
 
   -- the walk behind the junction
-  abbrev behind : Walk
+  abbrev pub behind : Walk
   behind = leaves s inner (nodesIn subring) w within
 
   -- the junction
-  abbrev here : Junction
+  abbrev pub here : Junction
   here = getD (s .junctions) (w .turned) restJunction
 
   -- its subring's line
   abbrev users : Line
   users = lineAt subring (s .nodes) (s .junctions) (w .passed) (w .turned + 1)
+
+  -- its turn, as the model has it
+  abbrev pub modelTurn : Junction
+  modelTurn =
+      junctionTurn inner (w .passed) (w .passed + nodesIn subring) (wanted s (w .passed) (nodesIn subring)) (w .last) (within .last) here
 
   -- its turn, as the line has it
   abbrev turns : Junction
@@ -260,7 +265,7 @@ module _ (s : State) (inner : Bool) (subring : Ring) (w : Walk) where
 
   module _ (g : Goes s true (λ ns js. lineAt subring ns js (w .passed) (w .turned + 1)) (enters s w) within) where
     -- it leaves what is behind the junction
-    later-junction : Later w behind
+    pub later-junction : Later w behind
     unfolding enters leaves
     later-junction =
         let i = g .later in
@@ -281,7 +286,7 @@ module _ (s : State) (inner : Bool) (subring : Ring) (w : Walk) where
     behind-turned = omega (arith, g .later .turned)
 
     -- what has what z left since the junction has what the walk left at the subring's end
-    between-within : (z x : Walk) → Later behind z → Between w z x → Between (enters s w) within x
+    pub between-within : (z x : Walk) → Later behind z → Between w z x → Between (enters s w) within x
     unfolding enters leaves
     between-within z x l b =
         record {
@@ -293,7 +298,7 @@ module _ (s : State) (inner : Bool) (subring : Ring) (w : Walk) where
         }
 
     -- there is room at the subring's end where there is room behind
-    room-within : (z : Walk) → Later behind z → Room z → Room within
+    pub room-within : (z : Walk) → Later behind z → Room z → Room within
     unfolding leaves
     room-within z l f =
         let same : length (behind .junctions) ≡ length (within .junctions) = length-set (within .junctions) (w .turned) _ in
@@ -304,7 +309,7 @@ module _ (s : State) (inner : Bool) (subring : Ring) (w : Walk) where
         }
 
     -- the turn that the model takes is the line's
-    its-turn : junctionTurn inner (w .passed) (w .passed + nodesIn subring) (wanted s (w .passed) (nodesIn subring)) (w .last) (within .last) here ≡ turns
+    its-turn : modelTurn ≡ turns
     unfolding enters junctionHere
     its-turn =
         ap₂ (λ (n : ℕ) (b : Bool). junctionTurn inner (w .passed) (w .passed + n) b (w .last) (within .last) here)
@@ -312,13 +317,12 @@ module _ (s : State) (inner : Bool) (subring : Ring) (w : Walk) where
         ∙ ap (λ (c : Car). junctionTurn inner (w .passed) (w .passed + size users) (wanting users) (w .last) c here) (g .last)
 
     -- what a walk that has what z left has of the junction
-    junction-after : (z x : Walk) → Room z → Later behind z → Between w z x → getD (x .junctions) (w .turned) restJunction ≡ turns
+    pub junction-after : (z x : Walk) → Room z → Later behind z → Between w z x → getD (x .junctions) (w .turned) restJunction ≡ modelTurn
     unfolding leaves junctionHere
     junction-after z x f l b =
         b .junctions (w .turned) (omega arith) (omega (arith, behind-turned, l .turned))
         ∙ l .junctions (w .turned) behind-turned
         ∙ getD-set-same (within .junctions) (w .turned) _ restJunction (omega (arith, behind-turned, room-within z l f .junctions))
-        ∙ its-turn
 
     -- along the junction and what is behind it
     goes-junction : (rest : Part) (z : Walk) → Goes s inner rest behind z
@@ -336,7 +340,7 @@ module _ (s : State) (inner : Bool) (subring : Ring) (w : Walk) where
               let i = g .after x (room-within z (t .later) f) (between-within z x (t .later) b) in
               let o = t .after x f (between-first w behind z x later-junction b) in
               record {
-                line = ap₂ (λ (j : Junction) (q : Line). junction j q (rest (x .nodes) (x .junctions))) (junction-after z x f (t .later) b) (i .line)
+                line = ap₂ (λ (j : Junction) (q : Line). junction j q (rest (x .nodes) (x .junctions))) (junction-after z x f (t .later) b ∙ its-turn) (i .line)
                     ∙ ap (λ (q : Line). junction turns (stepLine m true (w .passed) (here .subring) users) q)
                     (o .line ∙ ap (λ (k : ℕ). stepLine m inner k (here .main) r) (g .passed));
                 acts = (i .acts, subst (λ (k : ℕ). Meets (Made s x) k (here .main) r) (g .passed) (o .acts));

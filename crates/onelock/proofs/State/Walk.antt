@@ -39,7 +39,7 @@ pub line-size : (s : State) → inRange (s .plan) ≡ true → size (lineOf s) �
 line-size s r = line-nodes (ringOf (s .plan)) (s .nodes) (s .junctions) 0 0 ∙ sym (counted (s .plan) r)
 
 -- a formed state has places for the whole walk
-has-room : (s : State) → inRange (s .plan) ≡ true → Formed s → Room (walk s)
+pub has-room : (s : State) → inRange (s .plan) ≡ true → Formed s → Room (walk s)
 unfolding walk setOut
 has-room s r f =
     let ring = ringOf (s .plan) in

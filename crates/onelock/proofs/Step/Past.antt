@@ -68,13 +68,13 @@ shadow-one (Gotp x) = shade refl
 shadow-one (Didv x) = shade refl
 
 -- the flag that goes with the cars sent, by the kind of the car
-abbrev kindFlag : Kind → Bool → Bool
+abbrev pub kindFlag : Kind → Bool → Bool
 kindFlag token flag = true
 kindFlag gap flag = false
 kindFlag car flag = flag
 
 -- so it is for every car
-flag-kind : (c : Car) (flag : Bool) → flagAfter c flag ≡ kindFlag (kind c) flag
+pub flag-kind : (c : Car) (flag : Bool) → flagAfter c flag ≡ kindFlag (kind c) flag
 unfolding flagAfter
 flag-kind Idle flag = refl
 flag-kind Token flag = refl
@@ -86,7 +86,7 @@ flag-kind (Gotp x) flag = refl
 flag-kind (Didv x) flag = refl
 
 -- a sender that hands on what comes: its flag is then whether that belongs to the train
-flag-on : {w f fm : Bool} {p q q₂ : Phase} {ka km : Kind} → One w p ka f q → One w q km fm q₂ → kindFlag ka fm ≡ f
+pub flag-on : {w f fm : Bool} {p q q₂ : Phase} {ka km : Kind} → One w p ka f q → One w q km fm q₂ → kindFlag ka fm ≡ f
 flag-on passed main = refl
 flag-on last more = refl
 flag-on last head = refl

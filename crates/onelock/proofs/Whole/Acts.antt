@@ -112,7 +112,7 @@ module _ (m lock : ℕ) where
   act-car Force u = refl
 
   -- an action leaves the flag of a node
-  act-flag : (action : Action) (u : Node) → acted m action u lock .flag ≡ u .flag
+  pub act-flag : (action : Action) (u : Node) → acted m action u lock .flag ≡ u .flag
   unfolding acted busyWith released
   act-flag Take u = refl
   act-flag Release u = refl
