@@ -72,13 +72,13 @@ fn write_refusal(fd: i32, number: u64) -> bool {
     if number == 3 {
         return io::write_all(
             fd,
-            b": the plan's body has the wrong length. Correct it, or its number of positions.\n",
+            b": the plan's body does not end where its positions do. Correct its length, its number of positions or a list's count.\n",
         );
     }
     if number == 4 {
         return io::write_all(
             fd,
-            b": a plan value is outside its range. Correct rules, locks, positions or a value.\n",
+            b": a plan value is outside its range. Correct rules, locks, positions, a value, a list's count, the levels or the nodes.\n",
         );
     }
     if number == 5 {
