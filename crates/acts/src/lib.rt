@@ -1,11 +1,13 @@
 // Take, release and force at the node that is named: the numbers 9 to 12, and the node after an action that is accepted.
+#![tactic(auto)]
+
 ghost use Rattle.std.specs.Prelude.{◌≡◌};
 ghost use Rattle.acts.specs.Actions.{action_answer_number, wish_number, release_number, later_number, needs_idle, node_number, busy_with, released, acted};
 
 use usernode::{Activity, Node};
 
 // The three actions between steps.
-#[derive(Drop)]
+#[derive(Clone, Copy)]
 pub enum Action {
     Take,
     Release,
@@ -13,7 +15,7 @@ pub enum Action {
 }
 
 // The answer to an action: accepted, 7 to 12, or 13.
-#[derive(Drop)]
+#[derive(Clone, Copy)]
 pub enum ActionAnswer {
     Accepted,
     NoSuchNode,

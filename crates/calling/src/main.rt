@@ -1,6 +1,8 @@
 // How the model is called from another crate: a start, a take, steps until something happens, actions and a line that are refused.
 // Each function answers every input; a number says why a start, an action or a step was refused (README.md has the list), 0
 // that it was done. A state is handed in and handed back by value.
+#![tactic(auto)]
+
 use libc::STDOUT_FILENO;
 use plan::Plan;
 use positions::VALUES;

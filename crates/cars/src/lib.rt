@@ -1,24 +1,26 @@
 // The cars that go round the ring, what the number of the rules says, the test that a car names nothing that is missing (13), and
 // the flag that goes with the cars sent.
+#![tactic(auto)]
+
 ghost use Rattle.std.specs.Prelude.{◌≡◌, false, not, ◌&&◌, ◌||◌, ℕ};
 ghost use Rattle.cars.specs.Cars.{multiring, release_needs_idle, is_node, names, car_names, flag_after};
 
 // What a request carries: its lock and its source node.
-#[derive(Drop)]
+#[derive(Clone, Copy)]
 pub struct Tag {
     pub lock: u8,
     pub source: u8,
 }
 
 // What a notice to the junctions carries: its lock and its source node.
-#[derive(Drop)]
+#[derive(Clone, Copy)]
 pub struct Notice {
     pub lock: u8,
     pub source: u8,
 }
 
 // A sender that rests sends idle. Gotp and didv exist under multiring rules only.
-#[derive(Drop)]
+#[derive(Clone, Copy)]
 pub enum Car {
     Idle,
     Token,
@@ -71,7 +73,7 @@ fn names(nodes: u8, locks: u8, lock: u8, source: u8) -> bool
 }
 
 // What a car carries: nothing, or a lock and a source, as a notice (gotp, didv) or as a request.
-#[derive(Drop)]
+#[derive(Clone, Copy)]
 struct Carried {
     nothing: bool,
     notice: bool,

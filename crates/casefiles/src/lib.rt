@@ -1,4 +1,6 @@
 // The files of a case, which a program's argument names: the argument with an ending of four bytes; and how the cases end, as it is shown.
+#![tactic(auto)]
+
 ghost use Rattle.std.specs.Prelude.{◌≡◌};
 ghost use Rattle.io.specs.Counts.{IsPrefixLen};
 

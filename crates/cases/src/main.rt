@@ -1,5 +1,7 @@
 // Night files and their lines: for each argument NAME the night file NAME.bin is run, and its lines are compared with those of
 // NAME.txt, every byte and the length. The lines of data/ were written by another model of 01.
+#![tactic(auto)]
+
 mod comparing;
 
 // Whether the case that an argument names agrees. What cannot be opened or read differs. So does a text that fills its buffer,

@@ -6,7 +6,7 @@ ghost use Rattle.course.specs.Ready.{ahead_of};
 use items::{Item, ItemAnswer};
 
 // Whether it is an action, whether it is steps and how many, and the place behind it.
-#[derive(Drop)]
+#[derive(Clone, Copy)]
 pub(crate) struct Ahead {
     pub action: bool,
     pub steps: bool,

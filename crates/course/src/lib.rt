@@ -1,4 +1,6 @@
 // A run of a night file where it stands, by value, and moved on to its next line.
+#![tactic(auto)]
+
 ghost use Rattle.std.specs.Prelude.{◌≡◌};
 ghost use Rattle.course.specs.Standing.{beginning};
 
@@ -12,7 +14,7 @@ mod beginning;
 mod onward;
 
 // What the steps so far have reached: the ring's state, what is counted, and how many steps were done.
-#[derive(Drop)]
+#[derive(Clone, Copy)]
 pub struct Reached {
     pub state: State,
     pub tally: Tally,
@@ -21,7 +23,7 @@ pub struct Reached {
 
 // What a run is at: its items; its end, after all steps or cut at the ceiling; or a refused file with its number and the place of
 // its first bad item, 0 where no item is the reason.
-#[derive(Drop)]
+#[derive(Clone, Copy)]
 pub enum Phase {
     Items,
     Ended,
@@ -31,7 +33,7 @@ pub enum Phase {
 
 // A run under way: what it has reached, the place in the schedule, the steps left of the item before that place, the events of
 // the last step, the place of the next node to tell of (at the end: the next lock), what it is at, and whether all is said.
-#[derive(Drop)]
+#[derive(Clone, Copy)]
 pub struct Run {
     pub reached: Reached,
     pub at: usize,

@@ -1,1 +1,2 @@
 // Theorems only, over the definitions: the verdicts on night files.
+#![tactic(auto)]

@@ -1,6 +1,8 @@
 // The runs of a text, gathered into rows of numbers: the text has the lines of any number of runs, one after the other, as the night program
 // writes them, and comes in pieces of any size. The memory is fixed: what is read of the line at hand, some counts, and the rows of 401 runs in a
 // lent slice, into which a run's numbers are put line by line.
+#![tactic(auto)]
+
 mod placing;
 mod standing;
 
@@ -17,7 +19,7 @@ pub const ROWS_KEPT: u64 = 401;
 
 // What is wrong in a text that is no run: nothing so far; no line of the night program; an action or an event behind an H line; an H line that
 // is not the next lock's; a Q line inside a run; the last line without a newline; a run without its last line.
-#[derive(Drop)]
+#[derive(Clone, Copy)]
 pub enum Fault {
     Fine,
     NoLine,
@@ -30,7 +32,7 @@ pub enum Fault {
 
 // How the gathering stands: what is read of the line at hand, the lines before it, whether a run has begun and the H lines that it has had,
 // the whole runs (at most 401), the refused ones, and the first fault.
-#[derive(Drop)]
+#[derive(Clone, Copy)]
 pub struct Gather {
     pub scan: Scan,
     pub lines: u64,

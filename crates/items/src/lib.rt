@@ -1,4 +1,6 @@
 // The items of a schedule: what the item reader finds at a place, and the place afterwards.
+#![tactic(auto)]
+
 ghost use Rattle.std.specs.Prelude.{◌≡◌};
 ghost use Rattle.items.specs.Items.{place_at, item_answer_number, item_answer_place, read_at};
 
@@ -8,7 +10,7 @@ mod held;
 mod lent;
 
 // An item of the schedule: that many steps, or an action with its node and lock.
-#[derive(Drop)]
+#[derive(Clone, Copy)]
 pub enum Item {
     Steps(u16),
     Act { action: Action, node: u8, lock: u8 },
@@ -16,7 +18,7 @@ pub enum Item {
 
 // What the item reader finds: no more items, an item, one or two bytes left over (5), or a first byte above 3 (6), with the item's place
 // counted from 0.
-#[derive(Drop)]
+#[derive(Clone, Copy)]
 pub enum ItemAnswer {
     NoMore,
     Found(Item),
@@ -25,20 +27,20 @@ pub enum ItemAnswer {
 }
 
 // What was found, and the place afterwards.
-#[derive(Drop)]
+#[derive(Clone, Copy)]
 pub struct Reading {
     pub answer: ItemAnswer,
     pub at: usize,
 }
 
 // The place reached in a schedule.
-#[derive(Drop)]
+#[derive(Clone, Copy)]
 pub struct Cursor {
     pub at: usize,
 }
 
 // A schedule's bytes and the place reached in them.
-#[derive(Drop)]
+#[derive(Clone, Copy)]
 pub struct Reader<'a> {
     pub schedule: &'a [u8],
     pub at: usize,

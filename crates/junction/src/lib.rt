@@ -1,4 +1,6 @@
 // One junction: what it is, what it does outside and in a local tour with the two cars that arrive, and what 13 says of it.
+#![tactic(auto)]
+
 ghost use Rattle.std.specs.Prelude.{◌≡◌, not, ◌&&◌};
 ghost use Rattle.tours.specs.Sentences.{sentence_number};
 ghost use Rattle.junction.specs.Turn.{failing, junction_rule, junction_sentence, shadow, joins, junction_apply, train_after, trained, junction_turn};
@@ -8,7 +10,7 @@ use cars::Car;
 use tours::JunctionRule;
 
 // The car to the main ring, the car to the subring, the subring train flag, the local-tour flag, the lock word.
-#[derive(Drop)]
+#[derive(Clone, Copy)]
 pub struct Junction {
     pub main: Car,
     pub subring: Car,

@@ -1,5 +1,7 @@
 // A line of the night program read back, byte by byte: its steps, its letter and its numbers, or that it is no line. What has been read of a
 // line goes in and comes back by value, so a text may come in pieces of any size.
+#![tactic(auto)]
+
 mod digits;
 mod letters;
 
@@ -10,7 +12,7 @@ ghost use Rattle.linereader.specs.Reading.{is_next_digit, start_scan, going_on, 
 pub use letters::kind_of;
 
 // Which lines bear a letter: none; an action's or an event's; a lock's; a run's last; a refused file's.
-#[derive(Drop)]
+#[derive(Clone, Copy)]
 pub enum LineKind {
     NoKind,
     Deed,
@@ -20,7 +22,7 @@ pub enum LineKind {
 }
 
 // The part of the line that comes next; or that it is whole, or no line.
-#[derive(Drop)]
+#[derive(Clone, Copy)]
 pub enum Part {
     Steps,
     Letter,
@@ -31,7 +33,7 @@ pub enum Part {
 }
 
 // What has been read of a line: the number at hand, and whether it has a digit yet; the steps, the letter, and so many numbers.
-#[derive(Drop)]
+#[derive(Clone, Copy)]
 pub struct Scan {
     pub part: Part,
     pub begun: bool,

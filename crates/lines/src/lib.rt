@@ -1,5 +1,7 @@
 // The line writer: steps done, letter, numbers in order, into the start of a lent buffer, or refused with 16; and the same of a row of
 // numbers. The first pass counts the bytes; where the buffer has room for them the second one writes them in order.
+#![tactic(auto)]
+
 ghost use Rattle.std.specs.Prelude.{◌+◌, ◌/◌, ◌%◌, ◌<◌, ◌≤◌, ◌≡◌, ◌++◌, leb, length, set, drop};
 ghost use Rattle.std.proofs.lemmas.List.Edits.{sets};
 ghost use Rattle.lines.specs.Line.{digit, decimal, spaced, line, row, buffer_after, written_number, written_told, writing};
@@ -9,7 +11,7 @@ const SPACE: u8 = b' ';
 const NEWLINE: u8 = b'\n';
 
 // The line writer's answer: 16, or the line's length.
-#[derive(Drop)]
+#[derive(Clone, Copy)]
 pub enum Written {
     TooShort,
     Length(usize),

@@ -1,5 +1,7 @@
 // Made-up states of the lock ring and how the model answers them. The states and the questions are a text on standard input, one
 // command a line (its first lines say how they are written); each line is written as it stands, with the answer behind it.
+#![tactic(auto)]
+
 mod asking;
 mod forms;
 mod making;

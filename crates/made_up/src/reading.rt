@@ -6,7 +6,7 @@ use crate::{forms, names};
 pub const CELLS: usize = 20;
 
 // The cells up to `count` are filled; `form` is the form of the words to come.
-#[derive(Drop)]
+#[derive(Clone, Copy)]
 pub struct Line {
     cells: [u64; CELLS],
     count: usize,
@@ -14,7 +14,7 @@ pub struct Line {
 }
 
 // A word up to some byte of it.
-#[derive(Drop)]
+#[derive(Clone, Copy)]
 struct Word {
     state: u8,
     value: u64,

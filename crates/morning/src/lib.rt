@@ -1,6 +1,8 @@
 // The schedules of a night, each with its verdict: the text has for each schedule a head line, `>` and the file's name, and behind it the lines that the
 // night program wrote of it. It comes in pieces of any size. The memory is fixed: the counts of all verdicts, and for each schedule that is not good a
 // row of seven numbers and its name, in two lent slices. A schedule for which there is no room is still counted.
+#![tactic(auto)]
+
 mod closing;
 mod counts;
 mod entries;
@@ -18,7 +20,7 @@ use verdict::Watch;
 pub const ROW_WIDTH: usize = 7;
 
 // Where the reading stands: at the start of a line, inside a line of a run, inside the name of a head line.
-#[derive(Drop)]
+#[derive(Clone, Copy)]
 pub enum Place {
     LineStart,
     InLine,
@@ -27,7 +29,7 @@ pub enum Place {
 
 // How the reading of a night stands: the place; whether a schedule is at hand, what is read of its text, where its name starts, where the names end,
 // and whether there was room for it; how many schedules are listed, how many are not for want of room, and how many have each verdict.
-#[derive(Drop)]
+#[derive(Clone, Copy)]
 pub struct Night {
     pub place: Place,
     pub begun: bool,
@@ -41,14 +43,14 @@ pub struct Night {
 }
 
 // A listed schedule, in the order of the report: its verdict's number and its place among the rows.
-#[derive(Drop)]
+#[derive(Clone, Copy)]
 pub struct Cursor {
     pub verdict: u64,
     pub place: usize,
 }
 
 // What a row says.
-#[derive(Drop)]
+#[derive(Clone, Copy)]
 pub struct Entry {
     pub verdict: u64,
     pub count: u64,

@@ -1,5 +1,7 @@
 // The night program: a night file from standard input, the lines of its run to standard output. It reads and writes; the
 // model decides all else.
+#![tactic(auto)]
+
 use course::Run;
 use libc::{STDIN_FILENO, STDOUT_FILENO};
 use run::NIGHT_CEILING;

@@ -1,4 +1,6 @@
 // The night file: whether it is accepted or which of 1 to 6 it is refused with, its two parts and the plan.
+#![tactic(auto)]
+
 ghost use Rattle.std.specs.Prelude.{◌≡◌};
 ghost use Rattle.nightfile.specs.File.{two_at, file_told, file_answer_number, file_answer_place, file_answer_told, plan_part, schedule_part, schedule_start, part_at, plan_of};
 
@@ -8,7 +10,7 @@ mod bodies;
 mod contents;
 
 // The answer to a file: accepted, or 1 to 6; with 6 the place of the first bad item, counted from 0.
-#[derive(Drop)]
+#[derive(Clone, Copy)]
 pub enum FileAnswer {
     Accepted,
     WrongLength,

@@ -1,4 +1,6 @@
 // The plan: rules, locks and the positions round the main ring; its range (4), and how many nodes and junctions it has.
+#![tactic(auto)]
+
 ghost use Rattle.std.specs.Prelude.{◌≡◌, false, cond, ◌&&◌, ◌||◌, eqb, leb};
 ghost use Rattle.cars.specs.Cars.{multiring};
 ghost use Rattle.plan.specs.Plan.{heads_in_range, in_range, node_count, junction_count, plan_survey};
@@ -11,7 +13,7 @@ pub const NODES: usize = 64;
 pub const JUNCTIONS: usize = 144;
 
 // The bytes of the positions stand at the first places of `values`; `positions` counts those of the main ring.
-#[derive(Drop)]
+#[derive(Clone, Copy)]
 pub struct Plan {
     pub rules: u8,
     pub locks: u8,

@@ -1,5 +1,7 @@
 // The positions of a plan: bytes read as a ring of user nodes and junctions, junctions within junctions among them; by recursion, the
 // levels that are left falling at each call. And whether bytes end exactly with their positions (3).
+#![tactic(auto)]
+
 ghost use Rattle.std.specs.Prelude.{◌≡◌};
 ghost use Rattle.positions.specs.Reading.{counted, joined, position_at};
 
@@ -14,7 +16,7 @@ pub const VALUES: usize = 352;
 
 // What stands at a place: a user node, a junction with so many user nodes, a junction with a list of so many positions, or nothing
 // that a plan in range has there.
-#[derive(Drop)]
+#[derive(Clone, Copy)]
 pub enum Position {
     Node,
     Users(u8),
@@ -23,7 +25,7 @@ pub enum Position {
 }
 
 // Whether positions are in range, their user nodes and their junctions; 0 of each where they are not.
-#[derive(Drop)]
+#[derive(Clone, Copy)]
 pub struct Survey {
     pub right: bool,
     pub nodes: u16,

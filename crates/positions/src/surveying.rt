@@ -9,7 +9,7 @@ use crate::{Position, Survey, VALUES};
 const LEVELS: u8 = 3;
 
 // How far a survey has come: whether all is in range so far, the place reached, the user nodes and junctions before it.
-#[derive(Drop)]
+#[derive(Clone, Copy)]
 struct Extent {
     right: bool,
     place: usize,

@@ -1,4 +1,6 @@
 // Texts of nights and their reports: for each argument NAME the report of NAME.txt is written behind a line with the name.
+#![tactic(auto)]
+
 use libc::STDOUT_FILENO;
 use reporting::Reported;
 

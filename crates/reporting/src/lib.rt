@@ -1,5 +1,7 @@
 // The morning report: the night's text is read from a file a piece at a time, so that a text of any length takes the same memory, and the report is
 // written. What it says, and in which order, is morning's; here are the words.
+#![tactic(auto)]
+
 mod reading;
 mod room;
 mod sections;
@@ -13,7 +15,7 @@ const ROWS: usize = 114688;
 const NAMES: usize = 1048576;
 
 // What came of a report: everything was read and written; the reading failed; the writing failed.
-#[derive(Drop)]
+#[derive(Clone, Copy)]
 pub enum Reported {
     Whole,
     NotRead,

@@ -4,14 +4,14 @@ ghost use Rattle.io.specs.Counts.{IsPrefixLen};
 use morning::Night;
 
 // How the night stands at the end of the file, and whether an error ended the reading.
-#[derive(Drop)]
+#[derive(Clone, Copy)]
 pub(crate) struct NightRead {
     pub(crate) night: Night,
     pub(crate) failed: bool,
 }
 
 // What came of one reading: whether there may be more.
-#[derive(Drop)]
+#[derive(Clone, Copy)]
 struct Turn {
     night: Night,
     more: bool,

@@ -57,7 +57,7 @@ fn write_entry(fd: i32, entry: Entry, names: &[u8]) -> bool {
 }
 
 // Where the listing stands, and whether all was written.
-#[derive(Drop)]
+#[derive(Clone, Copy)]
 struct Listing {
     cursor: Cursor,
     written: bool,

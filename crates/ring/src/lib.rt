@@ -1,4 +1,6 @@
 // The state of the ring, by value: the start, the test of a made-up state (13), take, release, force, the step and several steps.
+#![tactic(auto)]
+
 ghost use Rattle.std.specs.Prelude.{◌≡◌};
 ghost use Rattle.ring.specs.State.{plan_answer_number};
 ghost use Rattle.ring.specs.Step.{step_answer_number};
@@ -20,7 +22,7 @@ mod walking;
 
 // A junction that a step has entered: the car that came to it, how many nodes stand before it, and whether one of those on the ring on which it stands
 // wants a train.
-#[derive(Drop)]
+#[derive(Clone, Copy)]
 struct Entered {
     arrival: Car,
     low: u8,
@@ -29,7 +31,7 @@ struct Entered {
 
 // The plan and every sender. Node n stands at place n - 1, the k-th junction in travelling order at place k - 1; places
 // beyond the plan and the queue's count are not in use.
-#[derive(Drop)]
+#[derive(Clone, Copy)]
 pub struct State {
     pub plan: Plan,
     pub zeroth: ZeroNode,
@@ -38,34 +40,34 @@ pub struct State {
 }
 
 // The answer to a start that is asked: accepted, or 4.
-#[derive(Drop)]
+#[derive(Clone, Copy)]
 pub enum PlanAnswer {
     InRange,
     OutOfRange,
 }
 
 // A start state and whether the plan was in range.
-#[derive(Drop)]
+#[derive(Clone, Copy)]
 pub struct Started {
     pub answer: PlanAnswer,
     pub state: State,
 }
 
 // The state after an action, or the state as it was and why.
-#[derive(Drop)]
+#[derive(Clone, Copy)]
 pub struct Acted {
     pub answer: ActionAnswer,
     pub state: State,
 }
 
 // What a step did at one node.
-#[derive(Drop)]
+#[derive(Clone, Copy)]
 pub struct Happening {
     pub event: Event,
 }
 
 // The answer to a step: done, or 13 to 15.
-#[derive(Drop)]
+#[derive(Clone, Copy)]
 pub enum StepAnswer {
     Done,
     BadState,
@@ -74,7 +76,7 @@ pub enum StepAnswer {
 }
 
 // The state after a step and the event of each node, or the state as it was, no events, and why.
-#[derive(Drop)]
+#[derive(Clone, Copy)]
 pub struct Stepped {
     pub answer: StepAnswer,
     pub state: State,
@@ -82,7 +84,7 @@ pub struct Stepped {
 }
 
 // The state after several steps, the events of the last of them, and how many were done.
-#[derive(Drop)]
+#[derive(Clone, Copy)]
 pub struct Advanced {
     pub state: State,
     pub events: [Happening; NODES],

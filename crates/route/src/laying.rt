@@ -8,7 +8,7 @@ ghost use Rattle.route.specs.Laying.{nodes_from, Layable, laid_after};
 use positions::Position;
 
 // How far the laying has come: the place reached in the route, the place reached in the positions, the user nodes and junctions before it.
-#[derive(Drop)]
+#[derive(Clone, Copy)]
 struct Laid {
     at: usize,
     place: usize,

@@ -1,4 +1,6 @@
 // The route of a ring: its senders in travelling order as numbers, one number a leg.
+#![tactic(auto)]
+
 ghost use Rattle.std.specs.Prelude.{◌+◌, ◌*◌, ◌≡◌, length};
 ghost use Rattle.std.proofs.lemmas.List.Edits.{sets};
 ghost use Rattle.route.specs.Route.{leg_of, laid_in};
@@ -11,7 +13,7 @@ mod laying;
 pub const LEGS: usize = 352;
 
 // A leg of the route: a user node, into a junction or out of it (true: an inner one), each by its place; or no leg.
-#[derive(Drop)]
+#[derive(Clone, Copy)]
 pub enum Leg {
     Nowhere,
     At(u8),

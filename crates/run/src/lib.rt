@@ -1,4 +1,6 @@
 // What a run of a night file says: its lines, a buffer filled with them, its result.
+#![tactic(auto)]
+
 ghost use Rattle.std.specs.Prelude.{◌≡◌, length};
 ghost use Rattle.course.specs.Whole.{course};
 ghost use Rattle.run.specs.Filling.{filling, filled_buffer};
@@ -16,14 +18,14 @@ mod results;
 pub const NIGHT_CEILING: u64 = 1000000;
 
 // A line, and the run after it.
-#[derive(Drop)]
+#[derive(Clone, Copy)]
 pub struct Saying {
     pub line: Line,
     pub run: Run,
 }
 
 // A run that has filled a buffer, and how many bytes it has written.
-#[derive(Drop)]
+#[derive(Clone, Copy)]
 pub struct Filled {
     pub run: Run,
     pub used: usize,
@@ -31,7 +33,7 @@ pub struct Filled {
 
 // The result of a run: the number of a refused file or 0, with 6 the place of the first bad item (else 0), whether it was cut at
 // the ceiling, the steps done, the busy steps of each lock, all grants and all N events.
-#[derive(Drop)]
+#[derive(Clone, Copy)]
 pub struct Outcome {
     pub refusal: u8,
     pub place: usize,

@@ -1,18 +1,20 @@
 // The runs of a file: its text is read and gathered a piece at a time, so that a file of any length takes the same memory; and the words for what
 // is wrong in a text that is no run.
+#![tactic(auto)]
+
 ghost use Rattle.io.specs.Counts.{IsPrefixLen};
 
 use gather::{Fault, Gather};
 
 // How the gathering stands at the end of the file, and whether an error ended the reading.
-#[derive(Drop)]
+#[derive(Clone, Copy)]
 pub struct RunsRead {
     pub state: Gather,
     pub failed: bool,
 }
 
 // What came of one reading: whether there may be more.
-#[derive(Drop)]
+#[derive(Clone, Copy)]
 struct Turn {
     state: Gather,
     more: bool,

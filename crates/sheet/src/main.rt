@@ -1,5 +1,7 @@
 // The sheet program: the lines of any number of runs from standard input, as the night program writes them; the monthly sheet to standard output, or
 // one line, "0 Q number 0". Text that is no run is told on standard error, and nothing is then written to standard output.
+#![tactic(auto)]
+
 use gather::{Fault, Gather};
 use libc::{STDERR_FILENO, STDIN_FILENO, STDOUT_FILENO};
 use lines::Written;

@@ -1,6 +1,8 @@
 // Texts of runs and their sheets: for each argument NAME the text NAME.txt is gathered and its sheet made. Where NAME.out stands, what would be
 // written must be its bytes; where NAME.bad stands instead, the text must be no run, and the line that is named is shown. The files of data/ were
 // made by another model of 02's item 13.
+#![tactic(auto)]
+
 use gather::Gather;
 use libc::STDOUT_FILENO;
 use lines::Written;

@@ -1,6 +1,8 @@
 // The monthly sheet: from the numbers of up to 400 runs, per lock and over all runs, busy steps, grants, N events and the busy share in parts
 // per million; or 24, 25, 26. The runs come as a lent slice of numbers, one row of 194 a run: the run's steps, its number of locks, then 64
 // places each for busy steps, grants and N events, lock 0 first. Places behind a run's locks are not read.
+#![tactic(auto)]
+
 mod refusals;
 mod rows;
 mod writing;
@@ -20,7 +22,7 @@ pub const LOCKS: usize = 64;
 const MOST_NUMBERS: usize = 400 * RUN_WIDTH;
 
 // One number a lock, of each kind; `locks` says how many there are.
-#[derive(Drop)]
+#[derive(Clone, Copy)]
 pub struct Sheet {
     pub locks: u64,
     pub busy: [u64; LOCKS],
@@ -30,7 +32,7 @@ pub struct Sheet {
 }
 
 // Whether a sheet was made: 0, 24, 25, 26.
-#[derive(Drop)]
+#[derive(Clone, Copy)]
 pub enum SheetAnswer {
     Made,
     TooManyRuns,
@@ -39,7 +41,7 @@ pub enum SheetAnswer {
 }
 
 // The answer with its sheet, which is empty where the runs are refused.
-#[derive(Drop)]
+#[derive(Clone, Copy)]
 pub struct MadeSheet {
     pub answer: SheetAnswer,
     pub sheet: Sheet,

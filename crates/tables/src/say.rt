@@ -3,7 +3,7 @@ use crate::seen;
 
 // Where the writing of positions stands: the lists that are open with the positions each has still to come, 8 bits each, the innermost
 // lowest; the mark that stands before the next position; whether the next value is the count of a list.
-#[derive(Drop)]
+#[derive(Clone, Copy)]
 struct Written {
     open: u64,
     mark: u8,

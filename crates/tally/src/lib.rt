@@ -1,4 +1,6 @@
 // What a run counts for each lock: busy steps, grants and N events; and their sums.
+#![tactic(auto)]
+
 ghost use Rattle.std.specs.Prelude.{◌≡◌, ℕ, ◌+◌, ◌-◌, ◌^◌, ◌≤◌, ◌<◌, min};
 ghost use Rattle.lists.specs.Loops.{iterate};
 ghost use Rattle.words.specs.Words.{has};
@@ -13,7 +15,7 @@ use usernode::Node;
 pub const LOCKS: usize = 64;
 
 // One count a lock, of each kind.
-#[derive(Drop)]
+#[derive(Clone, Copy)]
 pub struct Tally {
     pub busy: [u64; LOCKS],
     pub grants: [u64; LOCKS],

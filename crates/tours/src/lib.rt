@@ -1,4 +1,6 @@
 // Which sentence of the junction's rules applies, outside a local tour and in one.
+#![tactic(auto)]
+
 ghost use Rattle.std.specs.Prelude.{◌≡◌};
 ghost use Rattle.tours.specs.Rules.{within, outside, if_train, on_gotp, on_didv, in_tour};
 ghost use Rattle.tours.specs.Sentences.{sentence_number, outside_sentence, tour_sentence};
@@ -7,7 +9,7 @@ use cars::{Car, Notice, Tag};
 
 // Which sentence of the junction's rules applies. Outside a tour: the arrival goes on, a reqp fails, a tour begins.
 // In a tour: a car is dropped, the token or another car comes out, a notice sets or clears the word's bit, the tour ends.
-#[derive(Drop)]
+#[derive(Clone, Copy)]
 pub enum JunctionRule {
     GoesOn,
     FailsReqp(Tag),

@@ -1,4 +1,6 @@
 // A user node's turn in a step: what its rule does, and the event that it gives.
+#![tactic(auto)]
+
 ghost use Rattle.std.specs.Prelude.{◌≡◌};
 ghost use Rattle.turns.specs.Turn.{event_letter, event_lock, turn};
 
@@ -8,7 +10,7 @@ use usernode::Node;
 mod deeds;
 
 // What a step did at a node, with the lock: granted, failp returned, lost to a dov, own dov back, didv sent.
-#[derive(Drop)]
+#[derive(Clone, Copy)]
 pub enum Event {
     Nothing,
     Granted(u8),
@@ -19,7 +21,7 @@ pub enum Event {
 }
 
 // A node after its turn in a step, and the event that its rule gave.
-#[derive(Drop)]
+#[derive(Clone, Copy)]
 pub struct Turn {
     pub node: Node,
     pub event: Event,

@@ -1,4 +1,6 @@
 // One user node: what it is, which of the nine rules fits the car that arrives, and what 13 and 15 say of one node.
+#![tactic(auto)]
+
 ghost use Rattle.std.specs.Prelude.{◌≡◌};
 ghost use Rattle.usernode.specs.Node.{had, is_idle, wants_train, let_go};
 
@@ -9,7 +11,7 @@ mod rules;
 mod sound;
 
 // Nothing to do; a reqp or a dov to send, or sent and waited for, with its lock.
-#[derive(Drop)]
+#[derive(Clone, Copy)]
 pub enum Activity {
     Idle,
     ToSendReqp(u8),
@@ -19,7 +21,7 @@ pub enum Activity {
 }
 
 // The car it is sending, the in-train flag, the activity, the held word and the letting-go word.
-#[derive(Drop)]
+#[derive(Clone, Copy)]
 pub struct Node {
     pub car: Car,
     pub flag: bool,
@@ -30,7 +32,7 @@ pub struct Node {
 
 // The nine rules, 9 first since that is what a node does that rests, then 1 to 8 in their order (`rule_number`); each with what it needs
 // of the car or the node.
-#[derive(Drop)]
+#[derive(Clone, Copy)]
 pub enum Rule {
     Passes,
     SendsReqp(u8),

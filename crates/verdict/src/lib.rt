@@ -1,5 +1,7 @@
 // The verdict on one schedule, by the lines that the night program wrote of it: text that is no whole run, or else the worst line that it has, decides.
 // The text comes byte by byte, and is read by linereader and gather.
+#![tactic(auto)]
+
 mod judging;
 mod notes;
 
@@ -12,7 +14,7 @@ use linereader::{Part, Scan};
 
 // What a schedule is, worst first: its text is no whole run; its file was refused (Q); some of its actions were refused (X); it was cut (C); locks
 // were lost (L); takes failed (N); or it is good. The first four are bad, the next two are to be looked at.
-#[derive(Drop)]
+#[derive(Clone, Copy)]
 pub enum Verdict {
     Incomplete,
     Refused,
@@ -24,7 +26,7 @@ pub enum Verdict {
 }
 
 // The lines with one letter: how many there were, and the steps and the first two numbers of the first one.
-#[derive(Drop)]
+#[derive(Clone, Copy)]
 pub struct Noted {
     pub count: u64,
     pub steps: u64,
@@ -33,7 +35,7 @@ pub struct Noted {
 }
 
 // What has been read of a schedule's text: how its reading stands, its H lines, and the lines that a verdict goes by.
-#[derive(Drop)]
+#[derive(Clone, Copy)]
 pub struct Watch {
     pub gather: Gather,
     pub locks: Noted,
@@ -45,7 +47,7 @@ pub struct Watch {
 }
 
 // The verdict, and the lines that it rests on.
-#[derive(Drop)]
+#[derive(Clone, Copy)]
 pub struct Judged {
     pub verdict: Verdict,
     pub noted: Noted,

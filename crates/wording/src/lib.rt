@@ -1,4 +1,6 @@
 // The words of each line of a run: its letter and its numbers, by what it tells.
+#![tactic(auto)]
+
 ghost use Rattle.std.specs.Prelude.{◌≡◌};
 ghost use Rattle.wording.specs.Wording.{line_of, action_letter, action_says, refused_says, event_says, lock_says, end_letter, last_says, refusal_says};
 
@@ -6,7 +8,7 @@ use acts::Action;
 use turns::Event;
 
 // A line: steps done, letter, two numbers, and two more where it is long.
-#[derive(Drop)]
+#[derive(Clone, Copy)]
 pub struct Line {
     pub steps: u64,
     pub letter: u8,

@@ -1,4 +1,6 @@
 // The zero node: the car it is sending and its queue, rules (a), (b) and (c), and what 13 and 14 say of it.
+#![tactic(auto)]
+
 ghost use Rattle.std.specs.Prelude.{◌≡◌, ◌-◌, ◌≤◌, ◌<◌};
 ghost use Rattle.lists.specs.Loops.{every};
 ghost use Rattle.zeronode.specs.Rules.{zero_start, on_token, on_head, zero_rule, keeps};
@@ -12,13 +14,13 @@ use cars::Car;
 pub const PLACES: usize = 65;
 
 // One place of the queue.
-#[derive(Drop)]
+#[derive(Clone, Copy)]
 pub struct Slot {
     pub car: Car,
 }
 
 // The car it is sending, the queue with its head at place 0, and how many cars are in it.
-#[derive(Drop)]
+#[derive(Clone, Copy)]
 pub struct ZeroNode {
     pub car: Car,
     pub queue: [Slot; PLACES],
@@ -26,7 +28,7 @@ pub struct ZeroNode {
 }
 
 // (c), (a) and (b): send idle; send the token and take it off; send the head, which is not the token, and take it off.
-#[derive(Drop)]
+#[derive(Clone, Copy)]
 pub enum ZeroRule {
     SendsIdle,
     SendsToken,

@@ -1,0 +1,25 @@
+-- The parts follow each other, each with room for it; the law `put-row` puts them together.
+use native.Mathlib.Omega.{arith}
+use Rattle.lines.proofs.Laws.{row-length, put-row}
+use borrow.Author.Rules.{rules}
+use Rattle.lines.proofs.put_row.Goals as goal
+
+pub put_number-first_end-requires : goal.put_number-first_end-requires
+put_number-first_end-requires c =
+    let a = c.args in
+    omega (arith, row-length a.first a.numbers.now)
+
+pub put_numbers-numbers_end-requires : goal.put_numbers-numbers_end-requires
+put_numbers-numbers_end-requires c =
+    let a = c.args in
+    omega (arith, row-length a.first a.numbers.now)
+
+pub put_byte-requires : goal.put_byte-requires
+put_byte-requires c =
+    let a = c.args in
+    omega (arith, row-length a.first a.numbers.now)
+
+pub returns : goal.returns
+returns c =
+    put-row c.args.buffer.now c.args.first c.args.numbers.now c.put_number-first_end.ensures
+    c.put_numbers-numbers_end.ensures c.put_byte.ensures c.requires
