@@ -45,7 +45,7 @@ fields_of κ d = (d.schedule, (d.at, tt))
 
 -- what it owns
 abbrev pub Own : Lft → Reader → Fml
-Own κ d = (B (κ, tt)).own d (mach d ∷ [])
+Own κ d = (B (κ, tt)).own_val d (mach d ∷ [])
 
 -- the machine values of what the callee is passed
 abbrev pub passed : Reader → List Val × (List Val × Unit {0})
