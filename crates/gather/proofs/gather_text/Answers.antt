@@ -33,4 +33,8 @@ pub returns : goal.returns
 returns c =
     let a = c.args in
     let at_place = c.loop-i in
-    let all : take at_place.i a.text.now ≡ a.text.now = take_all at_place.i a.text.now c.loop-i-test.false in record { value = at_place.invariant.1 ∙ ap (after_all a.start) all; rows_after = at_place.invariant.2 ∙ ap (λ (l : List ℕ). rows_after_all a.start l a.rows.now) all }
+    let all : take at_place.i a.text.now ≡ a.text.now = take_all at_place.i a.text.now c.loop-i-test.false in
+    record {
+      value = at_place.invariant.1 ∙ ap (after_all a.start) all;
+      rows_after = at_place.invariant.2 ∙ ap (λ (l : List ℕ). rows_after_all a.start l a.rows.now) all;
+    }

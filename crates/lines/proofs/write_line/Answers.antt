@@ -26,4 +26,5 @@ pub returns : goal.returns
 unfolding writing buffer_after written_told written_number written_length
 returns c =
     let a = c.args in
-    let refused = room_told 3 (length (spaced a.numbers.now)) (length a.buffer.now) (line-length a.steps a.letter a.numbers.now) c.width.ensures c.has_room.ensures ∙ c.if-has_room.false in record { result_value = simp refused; buffer_after = simp refused }
+    let refused = room_told 3 (length (spaced a.numbers.now)) (length a.buffer.now) (line-length a.steps a.letter a.numbers.now) c.width.ensures c.has_room.ensures ∙ c.if-has_room.false in
+    record { result_value = simp refused; buffer_after = simp refused }

@@ -12,11 +12,19 @@ unfolding written_length
 returns-in-TooShort c =
     let written = c.write_row-written in
     let a = c.args in
-    let text : List ℕ = row a.lock (a.busy ∷ a.grants ∷ a.failed ∷ a.share ∷ []) in record { value = sym (ap written_length c.in-TooShort.is) ∙ told_length _ a.buffer.now text a.used written.ensures.result_value ∙ row_told a.buffer.now a.used a.lock a.busy a.grants a.failed a.share c.requires; buffer_after = put_back a.buffer.now _ text a.used written.ensures.buffer_after }
+    let text : List ℕ = row a.lock (a.busy ∷ a.grants ∷ a.failed ∷ a.share ∷ []) in
+    record {
+      value = sym (ap written_length c.in-TooShort.is) ∙ told_length _ a.buffer.now text a.used written.ensures.result_value ∙ row_told a.buffer.now a.used a.lock a.busy a.grants a.failed a.share c.requires;
+      buffer_after = put_back a.buffer.now _ text a.used written.ensures.buffer_after;
+    }
 
 pub returns-in-Length : goal.returns-in-Length
 unfolding written_length
 returns-in-Length c =
     let written = c.write_row-written in
     let a = c.args in
-    let text : List ℕ = row a.lock (a.busy ∷ a.grants ∷ a.failed ∷ a.share ∷ []) in record { value = sym (ap written_length c.in-Length.is) ∙ told_length _ a.buffer.now text a.used written.ensures.result_value ∙ row_told a.buffer.now a.used a.lock a.busy a.grants a.failed a.share c.requires; buffer_after = put_back a.buffer.now _ text a.used written.ensures.buffer_after }
+    let text : List ℕ = row a.lock (a.busy ∷ a.grants ∷ a.failed ∷ a.share ∷ []) in
+    record {
+      value = sym (ap written_length c.in-Length.is) ∙ told_length _ a.buffer.now text a.used written.ensures.result_value ∙ row_told a.buffer.now a.used a.lock a.busy a.grants a.failed a.share c.requires;
+      buffer_after = put_back a.buffer.now _ text a.used written.ensures.buffer_after;
+    }

@@ -27,7 +27,11 @@ pub loop-lock-preserved : goal.loop-lock-preserved
 unfolding sheet_row
 loop-lock-preserved c =
     let at_place = c.loop-lock in
-    record { below = search rules; few = search rules; so = written_row _ _ _ _ _ _ _ at_place.invariant.so (omega (arith, at_place.invariant.so.most, at_place.invariant.so.long)) c.put_row-used.ensures.value c.put_row-used.ensures.buffer_after (c.put_row-used.auto.buffer ∙ at_place.invariant.so.long) }
+    record {
+      below = search rules;
+      few = search rules;
+      so = written_row _ _ _ _ _ _ _ at_place.invariant.so (omega (arith, at_place.invariant.so.most, at_place.invariant.so.long)) c.put_row-used.ensures.value c.put_row-used.ensures.buffer_after (c.put_row-used.auto.buffer ∙ at_place.invariant.so.long);
+    }
 
 pub shape_of-buffer : goal.shape_of-buffer
 shape_of-buffer c = c.loop-lock.invariant.so.long
@@ -36,4 +40,8 @@ pub returns : goal.returns
 returns c =
     let a = c.args in
     let done : c.loop-lock.lock ≡ min a.sheet.locks 64 = omega (arith, c.places_used-locks.ensures) in
-    let so = c.loop-lock.invariant.so in record { value = so.count ∙ ap (λ (n : ℕ). length (sheet_rows a.sheet n)) done; buffer_after = so.text ∙ ap (λ (n : ℕ). sheet_rows a.sheet n ++ drop (length (sheet_rows a.sheet n)) a.buffer.now) done }
+    let so = c.loop-lock.invariant.so in
+    record {
+      value = so.count ∙ ap (λ (n : ℕ). length (sheet_rows a.sheet n)) done;
+      buffer_after = so.text ∙ ap (λ (n : ℕ). sheet_rows a.sheet n ++ drop (length (sheet_rows a.sheet n)) a.buffer.now) done;
+    }
