@@ -14,7 +14,7 @@ use Rattle.turns.specs.declared.Event.{Event}
 use Rattle.turns.specs.Turn.{becomes}
 use Rattle.lists.proofs.Tests.{or_left, or_right}
 use Rattle.onelock.proofs.Train.Cells.{Cell}
-use Rattle.onelock.proofs.Line.Ring.{Line, end, user, junction, out, wanting, step_line}
+use Rattle.onelock.proofs.Line.Ring.{Line, end, user, junction, wanting, step_line}
 use Rattle.onelock.proofs.Line.Numbers.{Nodes}
 use Rattle.onelock.proofs.Line.Phases.{Phase, before}
 use Rattle.onelock.proofs.Line.Fit.{waits, NoWait, Fit, f_end, f_user, f_past, f_tour}

@@ -1,6 +1,6 @@
 -- One step of a line: the one induction. A car a comes to the line, F is the train before the line and B what is behind a; the line after the
 -- step fits, and the invariant of the locks holds of the train and the nodes as they then are.
-use Prim.Native.Nat.{ℕ, suc, ◌+◌}
+use Prim.Native.Nat.{ℕ, suc}
 use mathlib.Core.Path.{refl, sym, ap, ◌∙◌, subst}
 use mathlib.Core.Bool.{Bool, true}
 use mathlib.Core.Logic.{inl}
