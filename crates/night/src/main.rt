@@ -3,46 +3,43 @@
 #![tactic(auto)]
 
 use course::Run;
-use libc::{STDIN_FILENO, STDOUT_FILENO};
 use run::NIGHT_CEILING;
-
-// Writes bytes to standard output, and says where that fails.
-fn write_out(bytes: &[u8]) -> bool {
-    let is_written = io::write_all(STDOUT_FILENO, bytes);
-    if !is_written {
-        os::fail(b"standard output");
-    }
-    is_written
-}
+use std::io::{Error, Result, Write};
+use std::process::ExitCode;
 
 // Writes the lines of a run, a buffer at a time. A line has at most 107 bytes, so every buffer takes some.
-fn write_lines(start: Run, schedule: &[u8]) {
-    let mut buffer = io::large_buffer();
+fn write_lines<W: Write>(out: &mut W, start: Run, schedule: &[u8]) -> Result<()> {
+    let mut buffer = [0u8; 65536];
     let mut run = start;
     loop {
         let filled = run::fill(run, schedule, NIGHT_CEILING, &mut buffer);
         let used = filled.used;
-        if !write_out(&buffer[..used]) {
-            return;
-        }
+        out.write_all(&buffer[..used])?;
         run = filled.run;
         if run.over {
-            return;
+            return Ok(());
         }
     }
 }
 
+// Says on standard error what failed, and ends with the status of a failure.
+fn fail(rt: &impl Eprint, what: &str, error: Error) -> ExitCode {
+    let _ = eprintln!(rt; "{what}: {error}");
+    ExitCode::FAILURE
+}
+
 // A file of more than 65,535 bytes fills the buffer, and the model refuses it.
-fn main() {
-    let mut buffer = io::large_buffer();
-    let input = files::read_all(STDIN_FILENO, &mut buffer);
-    if input.failed {
-        os::fail(b"standard input");
-        return;
+fn main(rt: HostRuntime) -> ExitCode {
+    let mut buffer = [0u8; 65536];
+    let input = files::read_all(&mut rt.stdin(), &mut buffer);
+    if let Some(error) = input.failed {
+        return fail(&rt, "standard input", error);
     }
-    let length = input.length;
-    let file = &buffer[..length];
+    let file = &buffer[..input.length];
     let schedule = nightfile::schedule_part(file);
     let start = course::begin(file);
-    write_lines(start, schedule);
+    match write_lines(&mut rt.stdout(), start, schedule) {
+        Ok(()) => ExitCode::SUCCESS,
+        Err(error) => fail(&rt, "standard output", error),
+    }
 }
