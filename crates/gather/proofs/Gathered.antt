@@ -160,7 +160,7 @@ run-done {r} {q} g run rows long is s =
     let g₁ : Gather = after_all g deeds in
     let rows₁ : List ℕ = rows_after_all g deeds rows in
     let long₁ : length rows₁ ≡ 401 * 194 = rows_long g deeds rows ∙ long in
-    let two = locks_done g₁ rows₁ long₁ is.locks_right_lem one.stood in
+    let two = locks_done g₁ rows₁ long₁ is.locks_right one.stood in
     let g₂ : Gather = after_all g₁ locks in
     let rows₂ : List ℕ = rows_after_all g₁ locks rows₁ in
     let long₂ : length rows₂ ≡ 401 * 194 = rows_long g₁ locks rows₁ ∙ long₁ in
@@ -274,11 +274,11 @@ pieces_done {r} {q} g rows long few (Pieces.one_run {run = run} {rest = rest} is
     let between : List ℕ = rows_after_all g text rows in
     split (PiecesDone r q (ran run ∷ rest) rows) g text (pieces_text rest) rows
     (run-first r q run rest rows between (after_all g text) (after_all (after_all g text) (pieces_text rest)) (rows_after_all (after_all g text) (pieces_text rest) between) few one
-    (pieces_done (after_all g text) between (rows_long g text rows ∙ long) (omega (arith, counted-min r few)) ps one.stood one.out))
+    (pieces_done {r = one_run_more r} {q = q} (after_all g text) between (rows_long g text rows ∙ long) (omega (arith, counted-min r few)) ps one.stood one.out))
 pieces_done {r} {q} g rows long few (Pieces.one_refused {l = l} {rest = rest} k ps) s out =
     carry_on (PiecesDone r q (left_out l ∷ rest) rows) g (line_text l) (pieces_text rest) rows (refusal-line l g s.at k out)
     (refused-first r q l rest rows (after_all (refusal_read g) (pieces_text rest)) (rows_after_all (refusal_read g) (pieces_text rest) rows)
-    (pieces_done (refusal_read g) rows long few ps
+    (pieces_done {r = r} {q = more q} (refusal_read g) rows long few ps
     (record { at = record { start = refl; fine = s.at.fine }; had = s.had; ran_before = s.ran_before; refused_before = ap more s.refused_before })
     out))
 

@@ -1,6 +1,6 @@
 -- The items that a run reads from its schedule are all of the schedule's items: at each place an item is found, up to the end.
 use Prim.Native.Nat.{ℕ, zero, suc, ◌+◌, ◌-◌, ◌*◌, ◌/◌, ◌≤◌}
-use mathlib.Core.Path.{◌≡◌, refl, sym, ap, ◌∙◌}
+use mathlib.Core.Path.{◌≡◌, refl, ap, ◌∙◌}
 use mathlib.Core.List.{List, [], ◌∷◌}
 use native.Mathlib.Omega.{arith}
 use lib.ListN.{length}
@@ -9,7 +9,7 @@ use Rattle.items.specs.declared.Reading.{Reading}
 use Rattle.items.specs.declared.ItemAnswer.TheVariants.{NoMore}
 use Rattle.nightfile.specs.File.{schedule_number, schedule_part}
 use Rattle.items.specs.Items.{item_of, reading, read_at}
-use Rattle.nightfile.proofs.Schedule.{Whole, whole, part_right}
+use Rattle.nightfile.proofs.Schedule.{whole, part_right}
 use Rattle.items.proofs.ReadsOn.{reads_on, reads_past}
 use Rattle.course.specs.Whole.{and_others, items_within, items_from}
 use Rattle.nightlock.specs.NightLock.{items_of}

@@ -17,8 +17,6 @@ use Rattle.ring.specs.declared.Happening.{Happening}
 use Rattle.ring.specs.Actions.{acting}
 use Rattle.ring.specs.Walk.{quiet}
 use Rattle.course.specs.declared.Run.{Run}
-use Rattle.course.specs.declared.Phase.{Phase}
-use Rattle.course.specs.declared.Phase.TheVariants.{Items, Ended, Cut, Refused}
 use Rattle.wording.specs.Wording.{line_of, action_letter, action_says, refused_says, event_says, lock_says, end_letter, last_says}
 use Rattle.course.specs.Wording.{event_here, is_event, is_cut, event_line, action_refusal, action_line, lock_line, last_line}
 use Rattle.onelock.specs.OneLock.{act, Deed, granted, ended, deed_if, deed_of, deeds_in, deeds_of, releases, Time, in_step, after_step, Moment, noted}

@@ -79,7 +79,7 @@ module _ (values : List ℕ) (place : ℕ) (deeper : Bool) where
   pub node_there : Node ≡ position_at deeper values place → place < length values
   node_there e = go (there e)
     where
-      go : Stands values place deeper Node → place < length values
+      go : {d : Bool} → Stands values place d Node → place < length values
       go (a_node d h none) = h
 
   pub users_there : {value : ℕ} → Users value ≡ position_at deeper values place → (place < length values) × (value ≤ 4)

@@ -57,35 +57,35 @@ module _ (values : List ℕ) (count room : ℕ) where
 
   -- by the survey: not in range, no room, or all of it
   module _ (survey : Survey) (told : survey ≡ survey_of (main_ring values count)) where
-    in_range_lem : {b : Bool} → survey.right ≡ b → (main_ring values count).right ≡ b
-    in_range_lem e = sym (right_told (main_ring values count)) ∙ sym (ap (λ (s : Survey). s.right) told) ∙ e
+    in_range : {b : Bool} → survey.right ≡ b → (main_ring values count).right ≡ b
+    in_range e = sym (right_told (main_ring values count)) ∙ sym (ap (λ (s : Survey). s.right) told) ∙ e
 
     legs_told : survey.right ≡ true → length (route_of values count) ≡ survey.nodes + 2 * survey.junctions
     legs_told right =
-        let all = told ∙ counts_told (main_ring values count) (in_range_lem right) in
+        let all = told ∙ counts_told (main_ring values count) (in_range right) in
         let nodes : survey.nodes ≡ nodes_in (main_ring values count).ring = ap (λ (s : Survey). s.nodes) all in
         let junctions : survey.junctions ≡ junctions_in (main_ring values count).ring = ap (λ (s : Survey). s.junctions) all in
         omega (arith, route_long values count, nodes, junctions)
 
     pub laid_wrong : survey.right ≡ false → laid_in room values count ≡ []
-    laid_wrong wrong = chosen false (leb (length (route_of values count)) room) (in_range_lem wrong) refl
+    laid_wrong wrong = chosen false (leb (length (route_of values count)) room) (in_range wrong) refl
 
     pub laid_short : {many : ℕ} → survey.right ≡ true → many ≡ survey.nodes + 2 * survey.junctions → room < many → laid_in room values count ≡ []
     laid_short right e short =
-        chosen true false (in_range_lem right) (lt-leb (length (route_of values count)) room (omega (arith, legs_told right, e, short)))
+        chosen true false (in_range right) (lt-leb (length (route_of values count)) room (omega (arith, legs_told right, e, short)))
 
     pub laid_fits : {many : ℕ} → survey.right ≡ true → many ≡ survey.nodes + 2 * survey.junctions → many ≤ room
         → laid_in room values count ≡ route_of values count
     laid_fits right e fits =
-        chosen true true (in_range_lem right) (le-leb (length (route_of values count)) room (omega (arith, legs_told right, e, fits)))
+        chosen true true (in_range right) (le-leb (length (route_of values count)) room (omega (arith, legs_told right, e, fits)))
 
     pub fits_layable : {many : ℕ} → length values ≡ 352 → survey.right ≡ true → many ≡ survey.nodes + 2 * survey.junctions → many ≤ room
         → Layable (length values) room (main_ring values count) 0 0 0
     unfolding legs_in
     fits_layable long right e fits =
-        let few = few_told values count long (in_range_lem right) in
+        let few = few_told values count long (in_range right) in
         record {
-          in_range_lem = in_range_lem right;
+          in_range = in_range right;
           few = omega (arith, long);
           fits = omega (arith, route_long values count, legs_told right, e, fits);
           few_nodes = omega (arith, few.0);

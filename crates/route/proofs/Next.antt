@@ -44,7 +44,7 @@ next_wrong depth values left place some here e right =
 -- a list: there is a level for it, it is in range, and the reading goes on behind it
 pub record Lists (depth : ℕ) (values : List ℕ) (left place size : ℕ) : Type 0 where
   pub deep : 1 ≤ depth
-  pub in_range_lem : (reading (depth - 1) values size (place + 2)).right ≡ true
+  pub in_range : (reading (depth - 1) values size (place + 2)).right ≡ true
   pub reads :
       reading depth values left place
       ≡ behind_junction (reading (depth - 1) values size (place + 2)).ring
@@ -74,7 +74,7 @@ next_listed (suc depth) values left place size some here e right =
     (behind_junction list.ring (reading (suc depth) values (left - 1) list.place))
     (goes_on (suc depth) values left place (Listed size) some (sym e ∙ here))
     right in
-    record { deep = omega arith; in_range_lem = rw f parts.0; reads = rw f parts.1 }
+    record { deep = omega arith; in_range = rw f parts.0; reads = rw f parts.1 }
 
 -- nothing is found past the end
 module _ (deeper : Bool) (values : List ℕ) (place : ℕ) {found : Position} (here : found ≡ position_at deeper values place) where

@@ -95,7 +95,7 @@ node_goes bytes inner rest row at nodes junctions l =
     let e : at + 1 ≡ suc at = omega arith in
     record {
       layable = record {
-        in_range_lem = l.in_range_lem;
+        in_range = l.in_range;
         few = l.few;
         fits = rw (length-set row at nodes) (omega (arith, l.fits));
         few_nodes = omega (arith, l.few_nodes);
@@ -149,7 +149,7 @@ junction_goes bytes inner subring rest row at nodes junctions l =
     ap (λ (l : List ℕ). into_number junctions ∷ l) (sym (append_assoc inside (out ∷ []) more)) in
     record {
       layable = record {
-        in_range_lem = l.in_range_lem;
+        in_range = l.in_range;
         few = l.few;
         fits = rw (length-sets row at put) (omega (arith, l.fits));
         few_nodes = omega (arith, l.few_nodes);
@@ -246,7 +246,7 @@ module _ (depth : ℕ) (values : List ℕ) (left place : ℕ) (row : List ℕ) (
 
   pub listed_here : (size : ℕ) → found ≡ Listed size → ListedHere depth values left place row at nodes junctions size
   listed_here size e =
-      let lists = next_listed depth values left place size some here e l.in_range_lem in
+      let lists = next_listed depth values left place size some here e l.in_range in
       let list = reading (depth - 1) values size (place + 2) in
       let early = listed_early (ltb 0 depth) values place here size e in
       record {
@@ -261,7 +261,7 @@ pub listed_layable : (depth : ℕ) (values : List ℕ) (left place : ℕ) (row :
     → Layable (length values) room (reading (depth - 1) values size (place + 2)) at₁ nodes (junctions + 1)
 listed_layable depth values left place row at nodes junctions size h e f =
     record {
-      in_range_lem = h.lists.in_range_lem;
+      in_range = h.lists.in_range;
       few = h.room.few;
       fits = omega (arith, h.room.fits, e, f);
       few_nodes = h.room.few_nodes;

@@ -16,7 +16,7 @@ legs_in ring = nodes_in ring + 2 * junctions_in ring
 -- positions that can be laid at a place of the route, with so many user nodes and junctions before them: they are read in range, there is
 -- room for their legs, and their numbers fit 16 bits
 pub record Layable (bytes room : ℕ) (read : Reading) (at nodes junctions : ℕ) : Type 0 where
-  pub in_range_lem : read.right ≡ true
+  pub in_range : read.right ≡ true
   pub few : bytes ≤ 352
   pub fits : at + legs_in read.ring ≤ room
   pub few_nodes : nodes + nodes_in read.ring ≤ 1408

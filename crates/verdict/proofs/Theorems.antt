@@ -56,7 +56,7 @@ lines_are : {piece : Piece} → Pieces (piece ∷ []) → AreLines (lines_in pie
 unfolding lines_in
 lines_are (Pieces.one_run {run = run} is no_more) =
     deeds_are (run.locks ++ (run.last ∷ [])) is.deeds_right
-    (locks_are (run.last ∷ []) is.locks_right_lem (AreLines.one_more is.last_right.is_line AreLines.none))
+    (locks_are (run.last ∷ []) is.locks_right (AreLines.one_more is.last_right.is_line AreLines.none))
 lines_are (Pieces.one_refused k no_more) = AreLines.one_more k.is_line AreLines.none
 
 -- ---- the text of one piece

@@ -1,7 +1,7 @@
 -- The runs in plans with junctions inside subrings hold of the definitions, by computation, as P1 to P12 do.
 use Prim.Native.Nat.{ℕ}
 use mathlib.Core.Path.{◌≡◌, refl}
-use mathlib.Core.List.{List, map}
+use mathlib.Core.List.{map}
 use Rattle.cars.specs.declared.Car.{Car}
 use Rattle.worked.specs.Watch.{steps_on, leads_to, car_out}
 use Rattle.worked.specs.Nested.{nested_plan, one_level, two_levels, three_levels, saved_plan, saved, nested_cases, CarCase, fails_real, shadow_plan, passes_shadow, fails_train, car_cases}

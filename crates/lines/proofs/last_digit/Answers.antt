@@ -1,5 +1,4 @@
 -- A digit and 48, its character.
-use borrow.Author.Rules.{rules}
 use mathlib.Core.Path.{refl}
 use Rattle.lines.specs.Line.{digit}
 use Rattle.lines.proofs.last_digit.Goals as goal

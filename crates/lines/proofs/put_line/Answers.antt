@@ -1,7 +1,6 @@
 -- The parts follow each other, each with room for it; the law `put-line` puts them together.
 use native.Mathlib.Omega.{arith}
 use Rattle.lines.proofs.Laws.{line-length, put-line}
-use borrow.Author.Rules.{rules}
 use Rattle.lines.proofs.put_line.Goals as goal
 
 pub put_number-steps_end-requires : goal.put_number-steps_end-requires
@@ -31,5 +30,7 @@ put_byte-requires c =
 
 pub returns : goal.returns
 returns c =
-    put-line c.args.buffer.now c.args.steps c.args.letter c.args.numbers.now c.put_number-steps_end.ensures
-    c.put_byte-letter_at.ensures c.put_byte-letter_end.ensures c.put_numbers-numbers_end.ensures c.put_byte.ensures c.requires
+    let both =
+    put-line c.args.buffer.now c.args.steps c.args.letter c.args.numbers.now (c.put_number-steps_end.ensures.value, c.put_number-steps_end.ensures.buffer_after)
+    (c.put_byte-letter_at.ensures.value, c.put_byte-letter_at.ensures.buffer_after) (c.put_byte-letter_end.ensures.value, c.put_byte-letter_end.ensures.buffer_after) (c.put_numbers-numbers_end.ensures.value, c.put_numbers-numbers_end.ensures.buffer_after) (c.put_byte.ensures.value, c.put_byte.ensures.buffer_after) c.requires in
+    record { value = both.0; buffer_after = both.1 }

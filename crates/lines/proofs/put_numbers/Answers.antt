@@ -1,12 +1,12 @@
 -- The invariant of the loop: the numbers up to the place reached are put, with room for the others.
-use Prim.Native.Nat.{ℕ, ◌+◌, ◌-◌, ◌≤◌}
-use mathlib.Core.Path.{◌≡◌, ap, ◌∙◌}
+use Prim.Native.Nat.{◌+◌}
+use mathlib.Core.Path.{ap, ◌∙◌}
 use native.Mathlib.Omega.{arith}
-use lib.ListN.{length, get_or, take, length-set}
-use lib.Seq.{sets, length-sets}
+use lib.ListN.{length, take, length-set}
+use lib.Seq.{length-sets}
 use borrow.Author.Rules.{rules}
-use Rattle.lines.specs.Line.{decimal, spaced}
-use Rattle.lines.proofs.Laws.{Put, spaced-length-more, spaced_part, spaced_all, put_none, put_another}
+use Rattle.lines.specs.Line.{spaced}
+use Rattle.lines.proofs.Laws.{spaced-length-more, spaced_part, spaced_all, put_none, put_another}
 use Rattle.lines.proofs.put_numbers.Goals as goal
 
 pub loop-next-init : goal.loop-next-init
@@ -26,7 +26,7 @@ put_number-end-requires c =
 pub loop-next-preserved : goal.loop-next-preserved
 loop-next-preserved c =
     let at_place = c.loop-next in
-    (search rules, put_another c.args.buffer.now c.args.at c.args.numbers.now at_place.next c.loop-next-test.true at_place.invariant.1 c.put_byte-number_at.ensures c.put_number-end.ensures)
+    (search rules, put_another c.args.buffer.now c.args.at c.args.numbers.now at_place.next c.loop-next-test.true at_place.invariant.1 (c.put_byte-number_at.ensures.value, c.put_byte-number_at.ensures.buffer_after) (c.put_number-end.ensures.value, c.put_number-end.ensures.buffer_after))
 
 pub shape_of-buffer : goal.shape_of-buffer
 shape_of-buffer c =
@@ -36,4 +36,5 @@ shape_of-buffer c =
 pub returns : goal.returns
 returns c =
     let a = c.args in
-    rw (← spaced_all a.numbers.now c.loop-next.next c.loop-next-test.false) c.loop-next.invariant.1
+    let all = spaced_all a.numbers.now c.loop-next.next c.loop-next-test.false in
+    record { value = rw (← all) c.loop-next.invariant.1.0; buffer_after = rw (← all) c.loop-next.invariant.1.1 }

@@ -1,7 +1,6 @@
 -- The parts follow each other, each with room for it; the law `put-row` puts them together.
 use native.Mathlib.Omega.{arith}
 use Rattle.lines.proofs.Laws.{row-length, put-row}
-use borrow.Author.Rules.{rules}
 use Rattle.lines.proofs.put_row.Goals as goal
 
 pub put_number-first_end-requires : goal.put_number-first_end-requires
@@ -21,5 +20,7 @@ put_byte-requires c =
 
 pub returns : goal.returns
 returns c =
-    put-row c.args.buffer.now c.args.first c.args.numbers.now c.put_number-first_end.ensures
-    c.put_numbers-numbers_end.ensures c.put_byte.ensures c.requires
+    let both =
+    put-row c.args.buffer.now c.args.first c.args.numbers.now (c.put_number-first_end.ensures.value, c.put_number-first_end.ensures.buffer_after)
+    (c.put_numbers-numbers_end.ensures.value, c.put_numbers-numbers_end.ensures.buffer_after) (c.put_byte.ensures.value, c.put_byte.ensures.buffer_after) c.requires in
+    record { value = both.0; buffer_after = both.1 }

@@ -1,10 +1,9 @@
 -- The room decides between the two answers; what was written is what `put_row` ensures.
 use mathlib.Core.Path.{◌∙◌}
-use borrow.Author.Rules.{rules}
 use native.Mathlib.Omega.{arith}
 use lib.ListN.{length}
 use borrow.Author.Tests.{leb-true}
-use Rattle.lines.specs.Line.{spaced, row, writing, buffer_after, written_told, written_number, written_length}
+use Rattle.lines.specs.Line.{spaced, writing, buffer_after, written_told, written_number, written_length}
 use Rattle.lines.proofs.Laws.{decimal-length_most, row-length, room_told}
 use Rattle.lines.proofs.write_row.Goals as goal
 
@@ -21,10 +20,11 @@ unfolding writing buffer_after written_told written_number written_length
 returns-then-has_room c =
     let a = c.args in
     let fits = room_told 1 (length (spaced a.numbers.now)) (length a.buffer.now) (row-length a.first a.numbers.now) c.width.ensures c.has_room.ensures ∙ c.if-has_room.true in
-    (simp (fits, c.put_row.ensures.value), simp fits c.put_row.ensures.buffer_after)
+    record { result_value = simp (fits, c.put_row.ensures.value); buffer_after = simp fits c.put_row.ensures.buffer_after }
 
 pub returns : goal.returns
 unfolding writing buffer_after written_told written_number written_length
 returns c =
     let a = c.args in
-    let refused = room_told 1 (length (spaced a.numbers.now)) (length a.buffer.now) (row-length a.first a.numbers.now) c.width.ensures c.has_room.ensures ∙ c.if-has_room.false in record { result_value = simp refused; buffer_after = simp refused }
+    let refused = room_told 1 (length (spaced a.numbers.now)) (length a.buffer.now) (row-length a.first a.numbers.now) c.width.ensures c.has_room.ensures ∙ c.if-has_room.false in
+    record { result_value = simp refused; buffer_after = simp refused }

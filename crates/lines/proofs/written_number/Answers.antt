@@ -1,5 +1,4 @@
 -- One number for each of the two answers.
-use borrow.Author.Rules.{rules}
 use Rattle.lines.specs.Line.{written_number}
 use Rattle.lines.proofs.written_number.Goals as goal
 

@@ -1,14 +1,13 @@
 -- A step along a ring, and whether cars are real: where what belongs to the train is real before the step, it is after it, and no shadow is rewritten.
 use Prim.Native.Nat.{ℕ, suc, ◌+◌, ◌≤◌, ◌<◌}
 use mathlib.Core.Path.{◌≡◌, refl, sym, ap, ◌∙◌, subst, subst₂}
-use mathlib.Core.Bool.{Bool, true, false, not, ◌&&◌, ◌||◌, true≢false}
+use mathlib.Core.Bool.{Bool, true, false, ◌||◌, true≢false}
 use mathlib.Core.List.{List}
 use native.Mathlib.Numerals.{add-one}
 use native.Mathlib.Omega.{arith}
 use lib.ListN.{get_or, length, length-set}
 use lib.Seq.{get_or-set_same, get_or-set_other}
 use Rattle.lists.proofs.Tests.{or_left, or_right}
-use Rattle.cars.specs.declared.Car.{Car}
 use Rattle.positions.specs.Ring.{Ring, no_more, user_node, a_junction, nodes_in, junctions_in}
 use Rattle.usernode.specs.declared.Node.{Node}
 use Rattle.usernode.specs.Astray.{astray}
@@ -18,10 +17,10 @@ use Rattle.ring.specs.declared.State.{State}
 use Rattle.ring.specs.State.{rest_node, rest_junction}
 use Rattle.ring.specs.Walk.{Walk, node_here, junction_here, on_node, wanted, enters, leaves, along}
 use Rattle.ring.proofs.Routed.{along_passed, along_turned}
-use Rattle.onelock.specs.Shadows.{Ghosts, Watch, node_sends_real, main_sends_real, subring_sends_real, node_rewrites, junction_rewrites, rule_here}
+use Rattle.onelock.specs.Shadows.{Ghosts, Watch, node_sends_real, rule_here}
 use Rattle.onelock.specs.Shadows.{sentence_here, watch_node, watch_into, watch_out, watch_along}
 use Rattle.onelock.proofs.Train.Cells.{Cell}
-use Rattle.onelock.proofs.Line.Ring.{Line, size}
+use Rattle.onelock.proofs.Line.Ring.{size}
 use Rattle.onelock.proofs.Line.Phases.{Phase, kind, One}
 use Rattle.onelock.proofs.Line.PhaseLaws.{allow}
 use Rattle.onelock.proofs.Line.Fit.{Fit, f_end, f_user, f_past, f_tour}

@@ -15,20 +15,20 @@ use Rattle.usernode.specs.declared.Node.{Node}
 use Rattle.usernode.specs.declared.Activity.{Activity}
 use Rattle.usernode.specs.declared.Activity.TheVariants.{Idle as Resting, ToSendReqp, WaitingReqp, ToSendDov, WaitingDov}
 use Rattle.usernode.specs.declared.Rule.{Rule}
-use Rattle.usernode.specs.declared.Rule.TheVariants.{Passes, SendsReqp, SendsDov, SendsDidv, OwnReqp, OwnFailp, FailsReqp, OwnDov, LosesLock}
+use Rattle.usernode.specs.declared.Rule.TheVariants.{Passes, SendsDidv, OwnReqp, OwnFailp, FailsReqp, OwnDov, LosesLock}
 use Rattle.usernode.specs.Astray.{waits_reqp, waits_dov, unready, astray}
 use Rattle.usernode.specs.Node.{had}
 use Rattle.usernode.specs.Rules.{on_letting, on_gap, on_idle, on_reqp, on_failp, on_dov, rule}
 use Rattle.turns.specs.Turn.{becomes, grant_car, apply, turn}
 use Rattle.tours.specs.declared.JunctionRule.{JunctionRule}
-use Rattle.tours.specs.declared.JunctionRule.TheVariants.{GoesOn, FailsReqp as Fails, Begins, Drops, TokenOut, CarOut, SetsBit, ClearsBit, Ends}
+use Rattle.tours.specs.declared.JunctionRule.TheVariants.{GoesOn, Drops, TokenOut, CarOut, SetsBit, ClearsBit, Ends}
 use Rattle.tours.specs.Rules.{within, outside, if_train, on_gotp, on_didv, in_tour}
 use Rattle.junction.specs.declared.Junction.{Junction}
-use Rattle.junction.specs.Turn.{failing, junction_rule, shadow, joins, junction_apply, train_after, trained, junction_turn}
+use Rattle.junction.specs.Turn.{failing, junction_rule, joins, junction_apply, train_after, trained, junction_turn}
 use Rattle.onelock.specs.Shadows.{node_sends_real, main_sends_real, subring_sends_real, node_rewrites, junction_rewrites}
 use Rattle.onelock.proofs.Line.Phases.{Phase, Kind, token, gap, car, kind, One, passed, last, alone, more, head, coming, shade, Come}
 use Rattle.onelock.proofs.Line.PhaseLaws.{allow}
-use Rattle.onelock.proofs.Step.Past.{kind_flag, flag_kind, flag_on}
+use Rattle.onelock.proofs.Step.Past.{flag_kind, flag_on}
 
 -- any car but idle
 abbrev pub moves : Car → Bool

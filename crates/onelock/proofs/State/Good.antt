@@ -74,7 +74,7 @@ rest_has_none plan node lock = rw (place_default (λ u. u ≡ rest_node) rest_no
 -- where each node is ready for its car, no node of the line is astray
 none_strays : (A : ℕ → Node) (k : ℕ) (a : Car) (l : Line) → Meets (Ready A) k a l → strays k a l ≡ false
 none_strays A k a end x = refl
-none_strays A k a (user u r) x = simp (x.0.there, none_strays A _ _ r x.1)
+none_strays A k a (user u r) x = simp (x.0.there, none_strays A (suc k) _ r x.1)
 none_strays A k a (junction j s r) x = simp (none_strays A _ _ s x.0, none_strays A _ _ r x.1)
 
 -- two tests that hold of each other are one

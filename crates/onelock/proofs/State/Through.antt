@@ -2,7 +2,7 @@
 -- put anew when its subring has been walked along, so a later walk is asked only for what lies between two walks.
 use Prim.Native.Nat.{ℕ, zero, suc, ◌+◌, ◌-◌, ◌≤◌, ◌<◌}
 use mathlib.Core.Path.{◌≡◌, refl, ◌∙◌, sym, ap, ap₂, subst, subst₂}
-use mathlib.Core.Bool.{Bool, true, false, or-false, ◌||◌, or_assoc}
+use mathlib.Core.Bool.{Bool, true, or-false, ◌||◌, or_assoc}
 use mathlib.Core.List.{List}
 use native.Mathlib.Nat.{add-zero}
 use native.Mathlib.Numerals.{add-one}

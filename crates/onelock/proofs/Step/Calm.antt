@@ -14,7 +14,7 @@ use Rattle.turns.specs.declared.Event.{Event}
 use Rattle.turns.specs.Turn.{becomes}
 use Rattle.lists.proofs.Tests.{or_left, or_right}
 use Rattle.onelock.proofs.Train.Cells.{Cell}
-use Rattle.onelock.proofs.Line.Ring.{Line, end, user, junction, out, wanting, step_line}
+use Rattle.onelock.proofs.Line.Ring.{Line, end, user, junction, wanting, step_line}
 use Rattle.onelock.proofs.Line.Numbers.{Nodes}
 use Rattle.onelock.proofs.Line.Phases.{Phase, before}
 use Rattle.onelock.proofs.Line.Fit.{waits, NoWait, Fit, f_end, f_user, f_past, f_tour}
@@ -37,14 +37,14 @@ turned_calm (loses_lock t other h) clear calm = calm
 turned_calm (passes a other free) clear calm = calm
 
 -- so no node of a line comes to wait in a step, where the train has not come to the line
-pub calm_step : {w : Bool} {lo hi k : ℕ} {p o : Phase} {G : List Cell} (m : ℕ) (a : Car) (l : Line) → Fit w lo hi p k l o G → p ≡ before
+pub calm_step : (m : ℕ) (a : Car) {w : Bool} {lo hi k : ℕ} {p o : Phase} {G : List Cell} (l : Line) → Fit w lo hi p k l o G → p ≡ before
     → Nodes Small l → NoWait l → NoWait (step_line m w k a l)
 calm_step m a end f_end e small calm = tt
 calm_step m a (user u r) (f_user {k = k} one clean rest) e small calm =
     (turned_calm (turned m (suc k) u small.0.letting a) (off one e).clear calm.0, calm_step m u.car r rest (off one e).phase small.1 calm.1)
 calm_step m a (junction j s r) (f_past tour train sub clean_sub inner still main clean rest) e small calm =
     (calm_step m j.subring s inner refl small.0 calm.0, calm_step m j.main r rest (off main e).phase small.1 calm.1)
-calm_step m a (junction j s r) (f_tour tour live sub inner out main rest) e small calm = absurd (live e)
+calm_step m a (junction j s r) (f_tour tour live sub inner outside main rest) e small calm = absurd (live e)
 
 -- a line on which no node wants a train has no node that waits
 pub wanting_calm : (l : Line) → wanting l ≡ false → NoWait l

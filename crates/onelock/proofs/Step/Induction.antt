@@ -1,6 +1,6 @@
 -- One step of a line: the one induction. A car a comes to the line, F is the train before the line and B what is behind a; the line after the
 -- step fits, and the invariant of the locks holds of the train and the nodes as they then are.
-use Prim.Native.Nat.{ℕ, suc, ◌+◌}
+use Prim.Native.Nat.{ℕ, suc}
 use mathlib.Core.Path.{refl, sym, ap, ◌∙◌, subst}
 use mathlib.Core.Bool.{Bool, true}
 use mathlib.Core.Logic.{inl}
@@ -40,11 +40,11 @@ module _ (m n : ℕ) where
       }
 
   -- one step of a line: where it fits and is in its place, it fits after the step, and the invariant is kept
-  pub line_move : {w f : Bool} {lo hi k e : ℕ} {p' p q o : Phase} {A : ℕ → Node} (a : Car) (l : Line) (G F B : List Cell)
+  pub line_move : (a : Car) {w f : Bool} {lo hi k e : ℕ} {p' p q o : Phase} {A : ℕ → Node} (l : Line) (G F B : List Cell)
       → Rel p' p (kind a) → One w p (kind a) f q → Fit w lo hi q k l o G → Setting m n lo hi p k a l F B A
       → Inv n e (F ++ (G ++ (cells p k a ++ B))) A → Moved m n w lo hi p' q k a l o F B e A
   line_move a end G F B rel one f_end x i = at_end_lem a F B rel one x i
-  line_move {e = e} {p = p} {A = A} a (user u r) G F B rel one (f_user {p = q} {k = k} {G = Gr} one-u clean rest) x i =
+  line_move a {e = e} {p = p} {A = A} (user u r) G F B rel one (f_user {p = q} {k = k} {G = Gr} one-u clean rest) x i =
       let on = onward rel one one-u (new_kind (turned m (suc k) u x.small.0.letting a)) in
       let i₁ = subst (λ T. Inv n e (F ++ T) A) (append_assoc Gr (cells q (suc k) u.car) (cells p k a ++ B)) i in
       user_done Gr rel one one-u x i₁ on (line_move u.car r Gr F (cells p k a ++ B) on.rel one-u rest (after_user one clean x) i₁)
@@ -52,7 +52,7 @@ module _ (m n : ℕ) where
       past_moved Gr rel one inner calm main x tour train clean_sub clean i
       (λ x₁ i₁. line_move j.main r Gr F _ same main rest x₁ i₁)
       (λ R X₂ D x₂ i₂. line_move j.subring s H X₂ (D ++ B) same sub inner x₂ i₂)
-  line_move {w = w} a (junction j s r) G F B rel one (f_tour {G = Gr} {H = H} tour live sub inner leaves main rest) x i =
+  line_move a {w = w} (junction j s r) G F B rel one (f_tour {G = Gr} {H = H} tour live sub inner leaves main rest) x i =
       tour_moved Gr rel one live sub inner leaves main x tour i
       (λ x₁ i₁. line_move j.main r Gr F _ same (allow w main) rest x₁ i₁)
       (λ R x₂ i₂. line_move j.subring s H _ _ same (allow true sub) inner x₂ i₂)

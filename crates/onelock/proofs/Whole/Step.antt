@@ -17,7 +17,7 @@ use Rattle.onelock.proofs.Train.CarMoves.{drops, wraps}
 use Rattle.onelock.proofs.Train.CellLaws.{at_all, at_gates}
 use Rattle.onelock.proofs.Line.Ring.{Line, size, out, step_line, view}
 use Rattle.onelock.proofs.Line.Numbers.{Nodes, Cars, Users, Agrees, view_agrees, step_size, step_users}
-use Rattle.onelock.proofs.Line.Phases.{Phase, before, inside, after, car, kind, One, passed, last, Come}
+use Rattle.onelock.proofs.Line.Phases.{Phase, before, inside, after, car, kind, One, passed, Come}
 use Rattle.onelock.proofs.Line.PhaseLaws.{same, car_real}
 use Rattle.onelock.proofs.Line.Fit.{cells, Fit}
 use Rattle.onelock.proofs.Line.FitLaws.{gap_cells, Quiet, quiet, live_cell, come_cells}

@@ -1,6 +1,6 @@
 -- The zero node's turn on its queue as a list of cars, and the queue's two parts: what it still has to send on this train, and behind it, where the
 -- token is back, the token and the cars collected for the next one.
-use Prim.Native.Nat.{ℕ, ◌+◌}
+use Prim.Native.Nat.{ℕ}
 use mathlib.Core.Path.{◌≡◌, refl, sym, ap}
 use mathlib.Core.Bool.{Bool, true, false, cond, true≢false}
 use mathlib.Core.List.{List, [], ◌∷◌, ◌++◌}

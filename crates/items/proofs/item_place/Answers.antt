@@ -1,0 +1,20 @@
+-- `item_place` gives `item_answer_place`, case by case.
+use borrow.Author.Rules.{rules}
+use Rattle.items.specs.Items.{item_answer_place}
+use Rattle.items.proofs.item_place.Goals as goal
+
+pub returns-in-NoMore : goal.returns-in-NoMore
+unfolding item_answer_place
+returns-in-NoMore c = simp c.in-NoMore.is
+
+pub returns-in-Found : goal.returns-in-Found
+unfolding item_answer_place
+returns-in-Found c = simp c.in-Found.is
+
+pub returns-in-LeftOver : goal.returns-in-LeftOver
+unfolding item_answer_place
+returns-in-LeftOver c = simp c.in-LeftOver.is
+
+pub returns-in-Bad : goal.returns-in-Bad
+unfolding item_answer_place
+returns-in-Bad c = simp c.in-Bad.is

@@ -1,0 +1,17 @@
+use mathlib.Core.Path.{ap}
+use Rattle.positions.specs.declared.Survey.{Survey}
+use Rattle.plan.specs.Plan.{plan_survey}
+use native.Mathlib.Omega.{arith}
+use Rattle.plan.proofs.Laws.{junctions_most}
+use borrow.Author.Rules.{rules}
+use Rattle.plan.proofs.Plan.junctions.Goals as goal
+
+-- src/lib.rt:119:9
+pub overflow_cast-result : goal.overflow_cast-result
+unfolding plan_survey
+overflow_cast-result c = omega (arith, ap (λ (s : Survey). s.junctions) c.survey-survey.ensures, junctions_most c.args.self)
+
+-- src/lib.rt:115:5
+pub returns : goal.returns
+unfolding plan_survey
+returns c = ap (λ (s : Survey). s.junctions) c.survey-survey.ensures

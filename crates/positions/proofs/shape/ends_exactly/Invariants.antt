@@ -1,0 +1,16 @@
+-- `ends_exactly` gives `ends_at`: in the loop, what is still to come ends with the bytes from the place on as all of them with all bytes.
+use Prim.Native.Nat.{◌+◌}
+use mathlib.Core.Path.{refl, sym, ◌∙◌}
+use native.Mathlib.Nat.{zero-add}
+use native.Mathlib.Omega.{arith}
+use lib.ListN.{get_or}
+use borrow.Author.Rules.{rules}
+use borrow.Author.Tests.{leb-true}
+use Rattle.positions.proofs.Ending.{Ending, ending_count, ending_position, ended_short, ended_early, ended_opening, ended_all}
+use Rattle.positions.proofs.shape.ends_exactly.Given as goal
+
+abbrev pub invariant-loop-room : goal.invariant-loop-room
+invariant-loop-room l = Ending l.bytes l.count l.room l.coming l.opening l.place
+
+abbrev pub decreases-loop-room : goal.decreases-loop-room
+decreases-loop-room l = l.room

@@ -1,0 +1,9 @@
+-- One store.
+use borrow.Author.Rules.{rules}
+use Rattle.route.specs.Route.{into_number}
+use Rattle.route.proofs.laying.put_into.Goals as goal
+
+pub returns : goal.returns
+unfolding into_number
+returns c =
+    record { value = c.put_leg.ensures.value; route_after = c.put_leg.ensures.route_after; route_len_unchanged = c.put_leg.ensures.route_len_unchanged }

@@ -1,0 +1,15 @@
+-- `results::finish` meets its contract. In its loop each line said leaves the end as it was.
+use mathlib.Core.Path.{◌≡◌, refl, sym, ap, ◌∙◌}
+use mathlib.Core.Bool.{true}
+use lib.ListN.{length}
+use borrow.Author.Rules.{rules}
+use Rattle.course.specs.Whole.{Course, course}
+use Rattle.course.specs.Ready.{ready}
+use Rattle.run.proofs.Fills.{fewer_lines, same_end, end_over}
+use Rattle.run.proofs.results.finish.Given as goal
+
+abbrev pub invariant-loop-here : goal.invariant-loop-here
+invariant-loop-here l = record { ready_now : ready l.schedule l.here ≡ true; same : (course l.ceiling l.schedule l.here).end ≡ (course l.ceiling l.schedule l.initial.here).end }
+
+abbrev pub decreases-loop-here : goal.decreases-loop-here
+decreases-loop-here l = length (course l.ceiling l.schedule l.here).lines

@@ -1,0 +1,7 @@
+-- `tally::silent_tally` meets its contract: of steps without an event only the busy counts are left.
+use borrow.Author.Rules.{rules}
+use Rattle.tally.proofs.Laws.{silent_counts}
+use Rattle.tally.proofs.silent_tally.Goals as goal
+
+pub returns : goal.returns
+returns c = simp (silent_counts, c.busy_counts-busy.ensures, c.at_most_64-2.ensures, c.at_most_64.ensures)

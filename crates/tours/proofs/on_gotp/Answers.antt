@@ -1,0 +1,12 @@
+-- `tours::on_gotp` meets its contract. On each way to a return, the tests and calls on the way choose the case of the definition.
+use Rattle.tours.specs.Rules.{on_gotp}
+use borrow.Author.Rules.{rules}
+use Rattle.tours.proofs.on_gotp.Goals as goal
+
+pub returns-then-within : goal.returns-then-within
+unfolding on_gotp
+returns-then-within c = simp (c.if-within.true, ← c.within.ensures)
+
+pub returns : goal.returns
+unfolding on_gotp
+returns c = simp (c.if-within.false, ← c.within.ensures)

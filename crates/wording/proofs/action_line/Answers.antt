@@ -1,0 +1,8 @@
+-- The line of an accepted action.
+use Rattle.wording.specs.Wording.{action_says}
+use borrow.Author.Rules.{rules}
+use Rattle.wording.proofs.action_line.Goals as goal
+
+pub returns : goal.returns
+unfolding action_says
+returns c = simp (c.line_of.ensures, c.action_letter.ensures)
