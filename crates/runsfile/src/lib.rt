@@ -2,6 +2,9 @@
 // is wrong in a text that is no run.
 #![tactic(auto)]
 
+ghost use Rattle.std.specs.Prelude.{◌≡◌, None, IfSome};
+ghost use Rattle.gather.specs.Gathering.{start_gather, after_all, rows_after_all};
+
 use gather::{Fault, Gather};
 use std::io::{Error, Read, Result, Write};
 
@@ -13,8 +16,12 @@ pub struct RunsRead {
 }
 
 // Reads to the end of the file. A proved loop has to end, and nothing says that a file does: so the turns are counted, up to a number that no
-// machine comes to; coming to it would count as an error.
-pub fn read_runs<R: Read>(reader: &mut R, rows: &mut [u64]) -> RunsRead {
+// machine comes to; coming to it would count as an error. Of a reader whose bytes are known the promise says that, without an error, all of them are
+// gathered, in whatever pieces they came.
+pub fn read_runs<R: Read>(reader: &mut R, rows: &mut [u64]) -> RunsRead
+    ensures state { result.failed ≡ None → IfSome (R.remaining reader.old) (λ text. result.state ≡ after_all start_gather text) }
+    ensures rows_after { result.failed ≡ None → IfSome (R.remaining reader.old) (λ text. rows.new ≡ rows_after_all start_gather text rows.old) }
+{
     let mut buffer = [0u8; 65536];
     let mut state = gather::start_gather();
     for _ in 0..u64::MAX {
