@@ -2,13 +2,22 @@
 // model decides all else.
 #![tactic(auto)]
 
+ghost use Rattle.std.specs.Prelude.{OnOk};
+ghost use Rattle.std.specs.Io.KnownBytes.{Appends};
+ghost use Rattle.course.specs.Whole.{course};
+ghost use Rattle.run.specs.Filling.{texts};
+ghost use Rattle.run.specs.Outcomes.{file_text};
+
 use course::Run;
 use run::NIGHT_CEILING;
 use std::io::{Error, Result, Write};
 use std::process::ExitCode;
 
-// Writes the lines of a run, a buffer at a time. A line has at most 107 bytes, so every buffer takes some.
-fn write_lines<W: Write>(out: &mut W, start: Run, schedule: &[u8]) -> Result<()> {
+// Writes the lines of a run, a buffer at a time. A line has at most 107 bytes, so every buffer takes some. Where no write fails, they are all lines of
+// the run, to the one at which it is over, and nothing else.
+fn write_lines<W: Write>(out: &mut W, start: Run, schedule: &[u8]) -> Result<()>
+    ensures { OnOk result (Appends (W.contents out.old) (W.contents out.new) (texts (course 1000000 schedule.now start).lines)) }
+{
     let mut buffer = [0u8; 65536];
     let mut run = start;
     loop {
@@ -20,6 +29,14 @@ fn write_lines<W: Write>(out: &mut W, start: Run, schedule: &[u8]) -> Result<()>
             return Ok(());
         }
     }
+}
+
+// Writes the lines of a night file.
+fn write_file<W: Write>(out: &mut W, file: &[u8]) -> Result<()>
+    ensures { OnOk result (Appends (W.contents out.old) (W.contents out.new) (file_text 1000000 file.now)) }
+{
+    let schedule = nightfile::schedule_part(file);
+    write_lines(out, course::begin(file), schedule)
 }
 
 // Says on standard error what failed, and ends with the status of a failure.
@@ -35,10 +52,7 @@ fn main(rt: HostRuntime) -> ExitCode {
     if let Some(error) = input.failed {
         return fail(&rt, "standard input", error);
     }
-    let file = &buffer[..input.length];
-    let schedule = nightfile::schedule_part(file);
-    let start = course::begin(file);
-    match write_lines(&mut rt.stdout(), start, schedule) {
+    match write_file(&mut rt.stdout(), &buffer[..input.length]) {
         Ok(()) => ExitCode::SUCCESS,
         Err(error) => fail(&rt, "standard output", error),
     }
