@@ -10,6 +10,17 @@ use std::io::{Error, ErrorKind, Result};
 use std::rt::Files;
 use std::{fs, str};
 
+// How many arguments the program was started with, its own name among them.
+pub fn arg_count(rt: &impl Env) -> usize {
+    let mut argument = [0u8; 4096];
+    for count in 0..usize::MAX {
+        if let Err(FillError::NotPresent) = rt.arg(count, &mut argument) {
+            return count;
+        }
+    }
+    usize::MAX
+}
+
 // Opens the file whose name is an argument and an ending. A path has at most 4,096 bytes, and is text.
 pub fn open_case<R: Env + Files>(rt: &R, argument: usize, ending: &[u8; 4]) -> Result<R::File> {
     let mut path = [0u8; 4096];

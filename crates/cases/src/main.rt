@@ -4,7 +4,6 @@
 
 mod comparing;
 
-use std::env;
 use std::env::Env;
 use std::io::Result;
 use std::rt::Files;
@@ -38,7 +37,7 @@ fn show_case<R: Env + Files + Print>(rt: &R, argument: usize) -> Result<bool> {
 }
 
 fn main(rt: HostRuntime) -> Result<()> {
-    let count = env::args(&rt)?.len();
+    let count = casefiles::arg_count(&rt);
     let mut agreed: usize = 0;
     let mut tried: usize = 0;
     for argument in 1..count {

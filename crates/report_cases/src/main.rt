@@ -3,9 +3,9 @@
 
 use reporting::Reported;
 use std::env::Env;
+use std::io;
 use std::io::Result;
 use std::rt::Files;
-use std::{env, io};
 
 // Writes that something went wrong.
 fn say(rt: &impl Print, reported: Reported) -> Result<()> {
@@ -36,7 +36,7 @@ fn write_case<R: Env + Files + Print>(rt: &R, argument: usize) -> Result<()> {
 }
 
 fn main(rt: HostRuntime) -> Result<()> {
-    let count = env::args(&rt)?.len();
+    let count = casefiles::arg_count(&rt);
     for argument in 1..count {
         write_case(&rt, argument)?;
     }

@@ -6,9 +6,9 @@
 use gather::Gather;
 use lines::Written;
 use std::env::Env;
+use std::io;
 use std::io::Result;
 use std::rt::Files;
-use std::{env, io};
 
 // Room for the rows of 401 runs.
 const ROOM: usize = 77794;
@@ -75,7 +75,7 @@ fn show_case<R: Env + Files + Print>(rt: &R, argument: usize) -> Result<bool> {
 }
 
 fn main(rt: HostRuntime) -> Result<()> {
-    let count = env::args(&rt)?.len();
+    let count = casefiles::arg_count(&rt);
     let mut agreed: usize = 0;
     let mut tried: usize = 0;
     for argument in 1..count {
