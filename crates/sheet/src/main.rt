@@ -2,6 +2,13 @@
 // one line, "0 Q number 0". Text that is no run is told on standard error, and nothing is then written to standard output.
 #![tactic(auto)]
 
+ghost use Rattle.std.specs.Prelude.{◌≡◌, true, false, OnOk};
+ghost use Rattle.std.specs.Io.KnownBytes.{Appends, Keeps};
+ghost use Rattle.gather.specs.Gathering.{fault_of, is_fine, whole_rows};
+ghost use Rattle.sums.specs.Sheet.{sheet_told, making};
+ghost use Rattle.sums.specs.Text.{sheet_text};
+ghost use Rattle.sums.specs.declared.MadeSheet.{MadeSheet};
+
 use gather::Gather;
 use lines::Written;
 use std::io::{Error, Result, Write};
@@ -18,8 +25,10 @@ fn say_refused<W: Write>(told: &mut W, refused: u64) {
     }
 }
 
-// Writes the sheet.
-fn write_out<W: Write>(out: &mut W, made: MadeSheet) -> Result<()> {
+// Writes the sheet: its whole text, where no write fails.
+fn write_out<W: Write>(out: &mut W, made: MadeSheet) -> Result<()>
+    ensures { OnOk result (Appends (W.contents out.old) (W.contents out.new) (sheet_text made)) }
+{
     let mut buffer = [0u8; 65536];
     match sums::write_sheet(made, &mut buffer) {
         Written::TooShort => Ok(()),
@@ -28,7 +37,12 @@ fn write_out<W: Write>(out: &mut W, made: MadeSheet) -> Result<()> {
 }
 
 // Says what is wrong with the text, or writes its sheet. What cannot be told is left untold.
-fn answer<W: Write, T: Write>(out: &mut W, told: &mut T, state: Gather, rows: &[u64]) -> Result<()> {
+fn answer<W: Write, T: Write>(
+    out: &mut W,
+    told: &mut T,
+    state: Gather,
+    rows: &[u64],
+) -> Result<()> {
     let fault = gather::fault_of(state);
     if gather::is_fine(fault) {
         say_refused(told, state.refused);
