@@ -1,5 +1,4 @@
-use borrow.Author.Tests.{le-leb, le-ltb, lt-leb, lt-ltb}
-use borrow.Author.Rules.{rules}
+use borrow.Author.Tests.{le-leb, lt-leb}
 use Rattle.plan.proofs.allowed.Goals as goal
 
 -- src/lib.rt:51:17
