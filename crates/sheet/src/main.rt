@@ -37,12 +37,11 @@ fn write_out<W: Write>(out: &mut W, made: MadeSheet) -> Result<()>
 }
 
 // Says what is wrong with the text, or writes its sheet. What cannot be told is left untold.
-fn answer<W: Write, T: Write>(
-    out: &mut W,
-    told: &mut T,
-    state: Gather,
-    rows: &[u64],
-) -> Result<()> {
+fn answer<W: Write, T: Write>(out: &mut W, told: &mut T, state: Gather, rows: &[u64]) -> Result<()>
+    ensures sheet { is_fine (fault_of state) ≡ true → OnOk result ((made : MadeSheet) × (sheet_told made ≡ making (whole_rows state rows.now))
+        × Appends (W.contents out.old) (W.contents out.new) (sheet_text made)) }
+    ensures none { is_fine (fault_of state) ≡ false → Keeps (W.contents out.old) (W.contents out.new) }
+{
     let fault = gather::fault_of(state);
     if gather::is_fine(fault) {
         say_refused(told, state.refused);
