@@ -2,7 +2,7 @@
 """Brings the repository's own ghost names to the spelling of today's Rattle: definitions, fields and constructors in snake case, facts in
 upper camel case, and in a lemma's name a dash only between two names of definitions.
 
-usage: python3 tools/respell.py [--dry]     at the top of the repository, once, after /opt/rattle/port/port.py
+usage: python3 tools/respell.py [--dry]     at the top of the repository, once, after the kit's port.py
 
 It renames words of specs/, proofs/, of the ghost parts of src/, of must-fail/ and of the pages. Functions of src/, strings, inputs and
 outputs keep their names. With --dry it changes nothing, and prints the names that fall together.

@@ -71,8 +71,8 @@ UnderRules3 = ReleasesWaiting on_the_train 3 1 (WaitingReqp 1) (passed_on 7 (aft
 
 -- multiring rules, a junction with both nodes on its subring: node 1 releases it while its reqp for the other is on the train, and node 2 beside it
 -- asks at once
-unfoldable pub on_asubring : Schedule
-on_asubring =
+unfoldable pub on_a_subring : Schedule
+on_a_subring =
     record {
       plan = λ rules. record { rules = rules; locks = 2; positions = 1; values = 2 ∷ replicate 15 0 };
       before = act Take 1 0 ∷ replicate 13 step ++ (act Take 1 1 ∷ replicate 6 step);
@@ -81,4 +81,4 @@ on_asubring =
 
 -- node 1 lets the lock go from step 19 on; its didv goes right after its grant of the other one, and then node 2 gets it
 abbrev pub UnderRules4 : Type 0
-UnderRules4 = ReleasesWaiting on_asubring 4 2 (WaitingReqp 1) (passed_on 10 (in_step 25) 34) (wait_ends 24)
+UnderRules4 = ReleasesWaiting on_a_subring 4 2 (WaitingReqp 1) (passed_on 10 (in_step 25) 34) (wait_ends 24)

@@ -3,17 +3,14 @@
 // that it was done. A state is handed in and handed back by value.
 #![tactic(auto)]
 
-use libc::STDOUT_FILENO;
 use plan::Plan;
 use positions::VALUES;
 use ring::State;
+use std::io::Result;
 
 // Writes what was asked and a number.
-fn say(what: &[u8], number: u64) {
-    io::write_all(STDOUT_FILENO, what);
-    io::write_all(STDOUT_FILENO, b": ");
-    io::print_decimal(STDOUT_FILENO, number);
-    io::write_all(STDOUT_FILENO, b"\n");
+fn say(rt: &impl Print, what: &str, number: u64) -> Result<()> {
+    println!(rt; "{what}: {number}")
 }
 
 // Multiring rules, one lock, two positions: a junction with two nodes (1 and 2), then node 3 on the main ring.
@@ -29,50 +26,52 @@ fn small_plan() -> Plan {
 }
 
 // Tells an action's number, and hands its state on.
-fn after_take(state: State, node: u8, what: &[u8]) -> State {
+fn after_take(rt: &impl Print, state: State, node: u8, what: &str) -> Result<State> {
     let taken = state.take(node, 0);
     let answer = taken.answer;
-    say(what, acts::answer_number(answer) as u64);
-    taken.state
+    say(rt, what, acts::answer_number(answer) as u64)?;
+    Ok(taken.state)
 }
 
 // One step, and then as many as bring the first event, at most 20: the event of node 1, which stands at place 0.
-fn after_steps(state: State) -> State {
+fn after_steps(rt: &impl Print, state: State) -> Result<State> {
     let stepped = state.step();
     let answer = stepped.answer;
-    say(b"a step", ring::step_number(answer) as u64);
+    say(rt, "a step", ring::step_number(answer) as u64)?;
     let next = stepped.state;
     let advanced = next.advance(20);
-    say(b"steps to the first event", advanced.done as u64);
+    say(rt, "steps to the first event", advanced.done as u64)?;
     let happening = advanced.events[0];
     let event = happening.event;
     say(
-        b"the letter of node 1's event, 71 for G",
+        rt,
+        "the letter of node 1's event, 71 for G",
         turns::event_letter(event) as u64,
-    );
-    advanced.state
+    )?;
+    Ok(advanced.state)
 }
 
 // A line that does not fit is refused (16), and leaves the buffer as it was.
-fn refused_line() {
+fn refused_line(rt: &impl Print) -> Result<()> {
     let mut buffer = [b'-'; 4];
     let written = lines::write_line(&mut buffer, 0, b'T', &[1, 0]);
     say(
-        b"a line of 8 bytes into a buffer of 4",
+        rt,
+        "a line of 8 bytes into a buffer of 4",
         lines::written_number(written) as u64,
-    );
-    io::write_all(STDOUT_FILENO, &buffer);
-    io::write_all(STDOUT_FILENO, b"\n");
+    )?;
+    rt.write_all(&buffer)?;
+    println!(rt)
 }
 
-fn main() {
+fn main(rt: HostRuntime) -> Result<()> {
     let started = State::start(small_plan());
     let answer = started.answer;
-    say(b"start", ring::plan_number(answer) as u64);
-    let asking = after_take(started.state, 1, b"take of lock 0 by node 1");
-    let holding = after_steps(asking);
+    say(&rt, "start", ring::plan_number(answer) as u64)?;
+    let asking = after_take(&rt, started.state, 1, "take of lock 0 by node 1")?;
+    let holding = after_steps(&rt, asking)?;
     // refused: the node holds the lock (10), and the plan has no node 4 (7); the state comes back as it was
-    let same = after_take(holding, 1, b"take by node 1, which holds it");
-    after_take(same, 4, b"take by node 4, which is missing");
-    refused_line();
+    let same = after_take(&rt, holding, 1, "take by node 1, which holds it")?;
+    after_take(&rt, same, 4, "take by node 4, which is missing")?;
+    refused_line(&rt)
 }

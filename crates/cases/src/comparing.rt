@@ -4,7 +4,7 @@ use run::NIGHT_CEILING;
 // The buffer takes all lines of a case at once: what does not fit differs. The night program's own stored run has more lines
 // than one buffer takes.
 pub fn file_agrees(file: &[u8], expected: &[u8]) -> bool {
-    let mut buffer = io::large_buffer();
+    let mut buffer = [0u8; 65536];
     let schedule = nightfile::schedule_part(file);
     let start = course::begin(file);
     let filled = run::fill(start, schedule, NIGHT_CEILING, &mut buffer);

@@ -4,17 +4,21 @@
 
 mod comparing;
 
+use std::env::Env;
+use std::io::Result;
+use std::rt::Files;
+
 // Whether the case that an argument names agrees. What cannot be opened or read differs. So does a text that fills its buffer,
 // since there may be more of it.
-fn case_agrees(argument: usize) -> bool {
-    let mut file_buffer = io::large_buffer();
-    let file = casefiles::read_case(argument, b".bin", &mut file_buffer);
-    if file.failed {
+fn case_agrees<R: Env + Files>(rt: &R, argument: usize) -> bool {
+    let mut file_buffer = [0u8; 65536];
+    let file = casefiles::read_case(rt, argument, b".bin", &mut file_buffer);
+    if file.failed.is_some() {
         return false;
     }
-    let mut text_buffer = io::large_buffer();
-    let text = casefiles::read_case(argument, b".txt", &mut text_buffer);
-    if text.failed {
+    let mut text_buffer = [0u8; 65536];
+    let text = casefiles::read_case(rt, argument, b".txt", &mut text_buffer);
+    if text.failed.is_some() {
         return false;
     }
     let file_length = file.length;
@@ -26,23 +30,21 @@ fn case_agrees(argument: usize) -> bool {
 }
 
 // Shows how one case ended, and answers with it.
-fn show_case(argument: usize) -> bool {
-    let agrees = case_agrees(argument);
-    casefiles::show_result(argument, agrees);
-    agrees
+fn show_case<R: Env + Files + Print>(rt: &R, argument: usize) -> Result<bool> {
+    let agrees = case_agrees(rt, argument);
+    casefiles::show_result(rt, argument, agrees)?;
+    Ok(agrees)
 }
 
-fn main() {
-    let count = os::arg_count();
+fn main(rt: HostRuntime) -> Result<()> {
+    let count = casefiles::arg_count(&rt);
     let mut agreed: usize = 0;
-    let mut argument: usize = 1;
-    while argument < count {
-        if show_case(argument) {
+    let mut tried: usize = 0;
+    for argument in 1..count {
+        if show_case(&rt, argument)? {
             agreed += 1;
-            argument += 1;
-        } else {
-            argument += 1;
         }
+        tried += 1;
     }
-    casefiles::show_total(agreed, argument - 1);
+    casefiles::show_total(&rt, agreed, tried)
 }

@@ -1,6 +1,6 @@
 -- What lies ahead of a run in its schedule, and the turn of the loop that goes past an item of steps.
 use Prim.Native.Nat.{ℕ, ◌≤◌, ◌<◌}
-use mathlib.Core.Path.{◌≡◌, refl, ◌∙◌, sym, ap}
+use mathlib.Core.Path.{◌≡◌, refl, sym, ap}
 use mathlib.Core.Bool.{true, false, true≢false}
 use mathlib.Core.List.{List, []}
 use Rattle.items.specs.declared.Item.{Item}

@@ -59,7 +59,7 @@ last_only : (run : RunLines) (letter : ℕ) → IsRun run → Other Deed letter 
     → count_of letter (run.deeds ++ (run.locks ++ (run.last ∷ []))) ≡ cond (eqb run.last.letter letter) 1 0 + 0
 unfolding count_of
 last_only run letter is deed lock =
-    deeds_without letter (run.locks ++ (run.last ∷ [])) deed is.deeds_right ∙ locks_without letter (run.last ∷ []) lock is.locks_right_lem
+    deeds_without letter (run.locks ++ (run.last ∷ [])) deed is.deeds_right ∙ locks_without letter (run.last ∷ []) lock is.locks_right
 
 -- ---- the lines of an accepted file
 

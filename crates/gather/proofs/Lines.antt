@@ -160,7 +160,7 @@ pub of_kind_line : (kind : LineKind) (l : TextLine) (g : Gather) → AtLine g �
     → Does g (line_text l) (after_line kind (scan_all start_scan (line_text l)) g) (rows_after_line kind (scan_all start_scan (line_text l)) g)
 of_kind_line kind l g at k =
     let w : Scan = scan_all start_scan (line_text l) in
-    subst (λ (k : LineKind). Does g (line_text l) (after_line k w g) (rows_after_line k w g)) (ap kind_of (scan_of l k.is_line).letter_read_lem ∙ k.of_kind)
+    subst (λ (k : LineKind). Does g (line_text l) (after_line k w g) (rows_after_line k w g)) (ap kind_of (scan_of l k.is_line).letter_read ∙ k.of_kind)
     (written-line l g at k.is_line)
 
 pub deed_line : (l : TextLine) (g : Gather) → AtLine g → OfKind Deed l → g.locks ≡ 0 → Does g (line_text l) (deed_read g) (λ rows. rows)
@@ -217,7 +217,7 @@ last_line l g at k =
     let d = of_kind_line Last l g at k in
     record {
       stands = d.stands;
-      gathered = λ rows. d.gathered rows ∙ ap (λ (steps : ℕ). last_rows steps g.runs g.locks rows) (scan_of l k.is_line).steps_read_lem;
+      gathered = λ rows. d.gathered rows ∙ ap (λ (steps : ℕ). last_rows steps g.runs g.locks rows) (scan_of l k.is_line).steps_read;
     }
 
 pub refusal-line : (l : TextLine) (g : Gather) → AtLine g → OfKind Refusal l → g.inside ≡ false → Does g (line_text l) (refusal_read g) (λ rows. rows)

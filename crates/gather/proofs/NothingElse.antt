@@ -33,7 +33,7 @@ record RunRest (had : ℕ) (text : List ℕ) : Type 0 where
   behind : List Piece
   deeds_right : Deeds deeds
   no_deeds : 0 < had → deeds ≡ []
-  locks_right_lem : LocksFrom had locks
+  locks_right : LocksFrom had locks
   last_right : OfKind Last last
   behind_right : Pieces behind
   same : text ≡ lines_text deeds ++ (lines_text locks ++ (line_text last ++ pieces_text behind))
@@ -55,7 +55,7 @@ deed_front l rest k r =
       behind = r.behind;
       deeds_right = Deeds.one_more k r.deeds_right;
       no_deeds = λ h. absurd (omega (arith, h));
-      locks_right_lem = r.locks_right_lem;
+      locks_right = r.locks_right;
       last_right = r.last_right;
       behind_right = r.behind_right;
       same = ap (λ (t : List ℕ). line_text l ++ t) r.same
@@ -73,7 +73,7 @@ lock_front had l rest k e small r =
       behind = r.behind;
       deeds_right = Deeds.none;
       no_deeds = λ h. refl;
-      locks_right_lem = LocksFrom.one_more k e small r.locks_right_lem;
+      locks_right = LocksFrom.one_more k e small r.locks_right;
       last_right = r.last_right;
       behind_right = r.behind_right;
       same = ap (λ (t : List ℕ). line_text l ++ t)
@@ -91,7 +91,7 @@ last_front had l rest k r =
       behind = r.pieces;
       deeds_right = Deeds.none;
       no_deeds = λ h. refl;
-      locks_right_lem = LocksFrom.none;
+      locks_right = LocksFrom.none;
       last_right = k;
       behind_right = r.right;
       same = ap (λ (t : List ℕ). line_text l ++ t) r.same;
@@ -108,7 +108,7 @@ unfolding pieces_text piece_text
 run_front text r =
     record {
       pieces = ran (record { deeds = r.deeds; locks = r.locks; last = r.last }) ∷ r.behind;
-      right = Pieces.one_run (record { deeds_right = r.deeds_right; locks_right_lem = r.locks_right_lem; last_right = r.last_right }) r.behind_right;
+      right = Pieces.one_run (record { deeds_right = r.deeds_right; locks_right = r.locks_right; last_right = r.last_right }) r.behind_right;
       same = r.same ∙ simp append_assoc;
     }
 
@@ -226,7 +226,7 @@ rest_found (byte ∷ rest) read g fine none e =
         let scan_same : scan_byte s byte ≡ w = sym one ∙ ap (scan_all start_scan) same in
         let after : after_all (after_byte (inside_line s g) byte) rest ≡ after_all (after_line (kind_of l.letter) w g) rest =
         ap (λ (h : Gather). after_all h rest)
-        (b ∙ ap (λ (t : Scan). after_line (kind_of t.letter) t g) scan_same ∙ ap (λ (n : ℕ). after_line (kind_of n) w g) (scan_of l found.is_line).letter_read_lem) in
+        (b ∙ ap (λ (t : Scan). after_line (kind_of t.letter) t g) scan_same ∙ ap (λ (n : ℕ). after_line (kind_of n) w g) (scan_of l found.is_line).letter_read) in
         subst (Rest g.inside g.locks) (ap (λ (t : List ℕ). t ++ rest) (sym same) ∙ append_assoc read (byte ∷ []) rest)
         (line_found (kind_of l.letter) l g rest fine none (record { is_line = found.is_line; of_kind = refl }) next (ap fault_of (sym after) ∙ e))
     go (OneByte.bad p b) on next = absurd (not_fine NoLine g rest refl (ap (λ (h : Gather). fault_of (after_all h rest)) (sym b) ∙ e))

@@ -53,7 +53,7 @@ no_run = record { deeds = []; locks = []; last = no_line }
 
 pub record IsRun (run : RunLines) : Type 0 where
   pub deeds_right : Deeds run.deeds
-  pub locks_right_lem : LocksFrom 0 run.locks
+  pub locks_right : LocksFrom 0 run.locks
   pub last_right : OfKind Last run.last
 
 -- a run, or the Q line of a refused one

@@ -12,7 +12,7 @@ use Rattle.nightfile.proofs.FirstBad.{six_tells_the_first_bad}
 use Rattle.items.specs.declared.ItemAnswer.TheVariants.{NoMore, Found, LeftOver, Bad}
 use Rattle.items.specs.declared.Reading.{Reading}
 use Rattle.items.specs.Items.{item_of, place_at, reading, read_at, item_answer_number, item_answer_place}
-use Rattle.items.specs.Theorems.{HandsBack, TheReaderTellsTheSame, OnlyBadTellsAPlace}
+use Rattle.items.specs.Theorems.{TheReaderTellsTheSame, OnlyBadTellsAPlace}
 
 -- what is read at the item at an index: it is found where its first byte is at most 3, and else it is bad, with that index
 finds : (schedule : List ℕ) (k : ℕ) → k < length schedule / 3 → byte_at schedule (3 * k) ≤ 3 →

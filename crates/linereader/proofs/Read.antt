@@ -353,6 +353,6 @@ read_is_written text w =
         steps_small = h.steps_small;
         small = λ place. numbers_taken s.count s.numbers place h.numbers_small;
       };
-      is_read = record { whole = w; steps_read_lem = refl; letter_read_lem = refl; count_read = sym many; numbers_read = refl };
+      is_read = record { whole = w; steps_read = refl; letter_read = refl; count_read = sym many; numbers_read = refl };
       same = both.1;
     }

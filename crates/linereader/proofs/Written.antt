@@ -150,8 +150,8 @@ written_is_read steps letter (n ∷ rest) h =
     subst (λ (s : Scan). IsRead s steps letter (n ∷ rest)) (sym e)
     (record {
       whole = refl;
-      steps_read_lem = refl;
-      letter_read_lem = refl;
+      steps_read = refl;
+      letter_read = refl;
       count_read = sym h.many;
       numbers_read = ap₂ take (sym h.many) (sets_front (n ∷ rest) (replicate 4 0) four) ∙ take_front (n ∷ rest) (drop (length (n ∷ rest)) (replicate 4 0));
     })

@@ -15,8 +15,8 @@ pub record IsLine (steps letter : ℕ) (numbers : List ℕ) : Type 0 where
 -- a whole line that was read: its steps, its letter and its numbers
 pub record IsRead (scan : Scan) (steps letter : ℕ) (numbers : List ℕ) : Type 0 where
   pub whole : scan.part ≡ Whole
-  pub steps_read_lem : scan.steps ≡ steps
-  pub letter_read_lem : scan.letter ≡ letter
+  pub steps_read : scan.steps ≡ steps
+  pub letter_read : scan.letter ≡ letter
   pub count_read : scan.count ≡ length numbers
   pub numbers_read : take scan.count scan.numbers ≡ numbers
 

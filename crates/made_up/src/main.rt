@@ -13,17 +13,22 @@ mod script;
 mod showing;
 mod terms;
 
+use std::io::{Read, Result};
+
 // Reads standard input to its end. A byte more, or no answer, where the end should be: the text is longer than the buffer, or a
 // read failed, and nothing is done. Text behind the last line end is no line, and that is said.
-fn main() {
+fn main(rt: HostRuntime) -> Result<()> {
     let mut buffer = room::for_script();
     let mut rest = [0u8; 1];
-    let used = io::read_full(0, &mut buffer);
-    if libc::read(0, &mut rest) == 0 {
-        if script::run(&buffer[..used]) < used {
-            say::not_understood();
+    let mut input = rt.stdin();
+    let used = files::read_all(&mut input, &mut buffer).length;
+    match input.read(&mut rest) {
+        Ok(0) => {
+            if script::run(&rt, &buffer[..used])? < used {
+                say::not_understood(&rt)?;
+            }
+            Ok(())
         }
-    } else {
-        say::not_understood();
+        _ => say::not_understood(&rt),
     }
 }

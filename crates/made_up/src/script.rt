@@ -5,6 +5,7 @@ use crate::{asking, making, names, reading, say, showing};
 use plan::Plan;
 use positions::VALUES;
 use ring::State;
+use std::io::Result;
 
 fn first() -> State {
     let started = State::start(Plan {
@@ -17,24 +18,24 @@ fn first() -> State {
 }
 
 // The state after a line, and what the line answers.
-fn obeyed(state: State, line: Line) -> State {
+fn obeyed(rt: &impl Print, state: State, line: Line) -> Result<State> {
     match reading::command(line) {
         names::PLAN | names::VALUES | names::ZERO | names::QUEUE | names::NODE | names::JUNCTION =>
             {
-                return making::made(state, line);
+                return Ok(making::made(state, line));
             }
-        names::START => return asking::start(line),
-        names::STEP => return asking::step(state),
-        names::TAKE | names::RELEASE | names::FORCE => return asking::act(state, line),
-        names::SHOW => showing::show(state, line),
+        names::START => return asking::start(rt, line),
+        names::STEP => return asking::step(rt, state),
+        names::TAKE | names::RELEASE | names::FORCE => return asking::act(rt, state, line),
+        names::SHOW => showing::show(rt, state, line)?,
         names::HEADING => {}
-        _ => say::not_understood(),
+        _ => say::not_understood(rt)?,
     }
-    state
+    Ok(state)
 }
 
 // Every line of the script: the line as it stands, and what it answers. Tells where the last line ends.
-pub fn run(script: &[u8]) -> usize {
+pub fn run(rt: &impl Print, script: &[u8]) -> Result<usize> {
     let mut state = first();
     let mut kept = state;
     let mut from = 0;
@@ -43,18 +44,18 @@ pub fn run(script: &[u8]) -> usize {
         if script[i] == b'\n' {
             let text = &script[from..i];
             let line = reading::line_of(text);
-            say::text(text);
+            say::text(rt, text)?;
             match reading::command(line) {
                 names::KEEP => kept = state,
                 names::BACK => state = kept,
-                _ => state = obeyed(state, line),
+                _ => state = obeyed(rt, state, line)?,
             }
-            say::byte(b'\n');
+            say::byte(rt, b'\n')?;
             i += 1;
             from = i;
         } else {
             i += 1;
         }
     }
-    from
+    Ok(from)
 }

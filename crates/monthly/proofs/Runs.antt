@@ -195,7 +195,7 @@ run_of file e =
       run = record { deeds = as_texts before; locks = as_texts (lock_lines reached 0 locks); last = as_text last };
       right = record {
         deeds_right = deeds_right before (last_lines end) ends.deeds small;
-        locks_right_lem = locks_right_lem reached 0 locks w few (omega (arith, most));
+        locks_right = locks_right_lem reached 0 locks w few (omega (arith, most));
         last_right = last_right reached.steps (is_cut end.phase) (sum_of reached.tally.grants locks) (sum_of reached.tally.failed locks)
             (omega (arith, few)) (omega (arith, few, w.both, sum-together reached.tally.grants locks))
             (omega (arith, few, w.both, sum-together reached.tally.failed locks));

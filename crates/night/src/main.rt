@@ -2,47 +2,58 @@
 // model decides all else.
 #![tactic(auto)]
 
+ghost use Rattle.std.specs.Prelude.{OnOk};
+ghost use Rattle.std.specs.Io.KnownBytes.{Appends};
+ghost use Rattle.course.specs.Whole.{course};
+ghost use Rattle.run.specs.Filling.{texts};
+ghost use Rattle.run.specs.Outcomes.{file_text};
+
 use course::Run;
-use libc::{STDIN_FILENO, STDOUT_FILENO};
 use run::NIGHT_CEILING;
+use std::io::{Error, Result, Write};
+use std::process::ExitCode;
 
-// Writes bytes to standard output, and says where that fails.
-fn write_out(bytes: &[u8]) -> bool {
-    let is_written = io::write_all(STDOUT_FILENO, bytes);
-    if !is_written {
-        os::fail(b"standard output");
-    }
-    is_written
-}
-
-// Writes the lines of a run, a buffer at a time. A line has at most 107 bytes, so every buffer takes some.
-fn write_lines(start: Run, schedule: &[u8]) {
-    let mut buffer = io::large_buffer();
+// Writes the lines of a run, a buffer at a time. A line has at most 107 bytes, so every buffer takes some. Where no write fails, they are all lines of
+// the run, to the one at which it is over, and nothing else.
+fn write_lines<W: Write>(out: &mut W, start: Run, schedule: &[u8]) -> Result<()>
+    ensures { OnOk result (Appends (W.contents out.old) (W.contents out.new) (texts (course 1000000 schedule.now start).lines)) }
+{
+    let mut buffer = [0u8; 65536];
     let mut run = start;
     loop {
         let filled = run::fill(run, schedule, NIGHT_CEILING, &mut buffer);
         let used = filled.used;
-        if !write_out(&buffer[..used]) {
-            return;
-        }
+        out.write_all(&buffer[..used])?;
         run = filled.run;
         if run.over {
-            return;
+            return Ok(());
         }
     }
 }
 
-// A file of more than 65,535 bytes fills the buffer, and the model refuses it.
-fn main() {
-    let mut buffer = io::large_buffer();
-    let input = files::read_all(STDIN_FILENO, &mut buffer);
-    if input.failed {
-        os::fail(b"standard input");
-        return;
-    }
-    let length = input.length;
-    let file = &buffer[..length];
+// Writes the lines of a night file.
+fn write_file<W: Write>(out: &mut W, file: &[u8]) -> Result<()>
+    ensures { OnOk result (Appends (W.contents out.old) (W.contents out.new) (file_text 1000000 file.now)) }
+{
     let schedule = nightfile::schedule_part(file);
-    let start = course::begin(file);
-    write_lines(start, schedule);
+    write_lines(out, course::begin(file), schedule)
+}
+
+// Says on standard error what failed, and ends with the status of a failure.
+fn fail(rt: &impl Eprint, what: &str, error: Error) -> ExitCode {
+    let _ = eprintln!(rt; "{what}: {error}");
+    ExitCode::FAILURE
+}
+
+// A file of more than 65,535 bytes fills the buffer, and the model refuses it.
+fn main(rt: HostRuntime) -> ExitCode {
+    let mut buffer = [0u8; 65536];
+    let input = files::read_all(&mut rt.stdin(), &mut buffer);
+    if let Some(error) = input.failed {
+        return fail(&rt, "standard input", error);
+    }
+    match write_file(&mut rt.stdout(), &buffer[..input.length]) {
+        Ok(()) => ExitCode::SUCCESS,
+        Err(error) => fail(&rt, "standard output", error),
+    }
 }

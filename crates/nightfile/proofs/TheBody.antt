@@ -1,15 +1,15 @@
 -- A plan's body and the plan with its 352 places: what stands behind the body is not read, and a body of more bytes is out of range either way.
 use Prim.Native.Nat.{ℕ, ◌+◌, ◌-◌, ◌≤◌, ◌<◌}
-use mathlib.Core.Path.{◌≡◌, refl, sym, ap, ◌∙◌, subst}
-use mathlib.Core.Bool.{Bool, true, false, not, ◌&&◌, ◌||◌, true≢false}
+use mathlib.Core.Path.{◌≡◌, refl, sym, ap, ◌∙◌}
+use mathlib.Core.Bool.{Bool, true, false, ◌&&◌, ◌||◌}
 use mathlib.Core.List.{List, ◌++◌}
-use mathlib.Core.Logic.{◌⊎◌, inl, inr, ⊎_elim}
+use mathlib.Core.Logic.{⊎_elim}
 use native.Mathlib.Omega.{arith}
 use lib.Dec.{eqb, leb, ltb}
 use lib.ListN.{length, take, drop, replicate, take-append-drop}
 use lib.Seq.{length-take-le, take-append-le, take-append-add}
 use borrow.Author.Tests.{not-false}
-use Rattle.lists.proofs.Tests.{by_value, at_most_or_above, or_right}
+use Rattle.lists.proofs.Tests.{at_most_or_above, or_right}
 use Rattle.cars.specs.Cars.{multiring}
 use Rattle.positions.specs.Ring.{nodes_in, junctions_in}
 use Rattle.positions.specs.Reading.{Reading, main_ring}
@@ -18,7 +18,6 @@ use Rattle.positions.proofs.Counts.{reads_within}
 use Rattle.positions.proofs.Theorems.{main_reads, at_most_352_bytes, ends_where_it_is_read, nothing_behind_is_read}
 use Rattle.positions.proofs.InRange.{reads_reading}
 use Rattle.positions.proofs.Padded.{reads_padded}
-use Rattle.plan.specs.declared.Plan.{Plan}
 use Rattle.plan.specs.Plan.{heads_in_range, positions_read, ring_of, junctions_allowed, in_range}
 use Rattle.plan.proofs.Laws.{in_range_lem}
 use Rattle.nightfile.specs.File.{byte_at, plan_length_wrong, plan_values, plan_of}

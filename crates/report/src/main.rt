@@ -2,18 +2,20 @@
 // output. What goes wrong is told on standard error, and the report's last line, which begins with GOOD, is then missing or not to be trusted.
 #![tactic(auto)]
 
-use libc::{STDIN_FILENO, STDOUT_FILENO};
 use reporting::Reported;
+use std::io::Error;
+use std::process::ExitCode;
 
-fn main() {
-    let reported = reporting::report(STDIN_FILENO, STDOUT_FILENO);
-    match reported {
-        Reported::Whole => {}
-        Reported::NotRead => {
-            os::fail(b"report: standard input");
-        }
-        Reported::NotWritten => {
-            os::fail(b"report: standard output");
-        }
+// Says on standard error what failed, and ends with the status of a failure.
+fn fail(rt: &impl Eprint, what: &str, error: Error) -> ExitCode {
+    let _ = eprintln!(rt; "report: {what}: {error}");
+    ExitCode::FAILURE
+}
+
+fn main(rt: HostRuntime) -> ExitCode {
+    match reporting::report(&mut rt.stdin(), &mut rt.stdout()) {
+        Reported::Whole => ExitCode::SUCCESS,
+        Reported::NotRead(error) => fail(&rt, "standard input", error),
+        Reported::NotWritten(error) => fail(&rt, "standard output", error),
     }
 }

@@ -1,44 +1,44 @@
 // Texts of nights and their reports: for each argument NAME the report of NAME.txt is written behind a line with the name.
 #![tactic(auto)]
 
-use libc::STDOUT_FILENO;
 use reporting::Reported;
+use std::env::Env;
+use std::io;
+use std::io::Result;
+use std::rt::Files;
 
 // Writes that something went wrong.
-fn say(reported: Reported) {
+fn say(rt: &impl Print, reported: Reported) -> Result<()> {
     match reported {
-        Reported::Whole => {}
-        Reported::NotRead => {
-            io::write_all(STDOUT_FILENO, b"not read\n");
-        }
-        Reported::NotWritten => {
-            io::write_all(STDOUT_FILENO, b"not written\n");
-        }
+        Reported::Whole => Ok(()),
+        Reported::NotRead(_) => println!(rt; "not read"),
+        Reported::NotWritten(_) => println!(rt; "not written"),
     }
 }
 
 // Writes the name of a case.
-fn write_name(argument: usize) {
-    let mut name = io::buffer();
-    let length = os::arg(argument, &mut name);
-    io::write_all(STDOUT_FILENO, b"==== ");
-    io::write_all(STDOUT_FILENO, &name[..length]);
-    io::write_all(STDOUT_FILENO, b"\n");
+fn write_name<R: Env + Print>(rt: &R, argument: usize) -> Result<()> {
+    let mut name = [0u8; 4096];
+    let length = rt.arg(argument, &mut name).unwrap_or(0);
+    print!(rt; "==== ")?;
+    rt.write_all(&name[..length])?;
+    println!(rt)
 }
 
 // Writes one case.
-fn write_case(argument: usize) {
-    write_name(argument);
-    let fd = casefiles::open_case(argument, b".txt");
-    say(reporting::report(fd, STDOUT_FILENO));
-    libc::close(fd);
+fn write_case<R: Env + Files + Print>(rt: &R, argument: usize) -> Result<()> {
+    write_name(rt, argument)?;
+    let reported = match casefiles::open_case(rt, argument, b".txt") {
+        Ok(mut file) => reporting::report(&mut file, &mut io::writer(rt)),
+        Err(error) => Reported::NotRead(error),
+    };
+    say(rt, reported)
 }
 
-fn main() {
-    let count = os::arg_count();
-    let mut argument: usize = 1;
-    while argument < count {
-        write_case(argument);
-        argument += 1;
+fn main(rt: HostRuntime) -> Result<()> {
+    let count = casefiles::arg_count(&rt);
+    for argument in 1..count {
+        write_case(&rt, argument)?;
     }
+    Ok(())
 }

@@ -8,6 +8,7 @@ mod sections;
 mod words;
 
 use morning::Night;
+use std::io::{Error, Read, Write};
 
 // Room for the rows of 16,384 schedules that are not good, and for 1,048,576 bytes of their names.
 const ROWS: usize = 114688;
@@ -18,25 +19,25 @@ const NAMES: usize = 1048576;
 #[derive(Clone, Copy)]
 pub enum Reported {
     Whole,
-    NotRead,
-    NotWritten,
+    NotRead(Error),
+    NotWritten(Error),
 }
 
 // Writes the report of a night that has been read.
-fn write_night(fd: i32, night: Night, rows: &[u64], names: &[u8]) -> Reported {
-    if sections::write_report(fd, night, rows, names) {
-        return Reported::Whole;
+fn write_night<W: Write>(out: &mut W, night: Night, rows: &[u64], names: &[u8]) -> Reported {
+    match sections::write_report(out, night, rows, names) {
+        Ok(()) => Reported::Whole,
+        Err(error) => Reported::NotWritten(error),
     }
-    Reported::NotWritten
 }
 
 // Reads the night's text to its end from one file, and writes its report to another.
-pub fn report(input: i32, output: i32) -> Reported {
+pub fn report<R: Read, W: Write>(input: &mut R, output: &mut W) -> Reported {
     let mut rows = room::for_rows();
     let mut names = room::for_names();
     let read = reading::read_night(input, &mut rows, &mut names);
-    if read.failed {
-        return Reported::NotRead;
+    if let Some(error) = read.failed {
+        return Reported::NotRead(error);
     }
     let night = morning::end_night(read.night, &mut rows);
     write_night(output, night, &rows, &names)

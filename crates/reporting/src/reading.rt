@@ -1,68 +1,49 @@
 // The night's text, read from a file a piece at a time.
-ghost use Rattle.io.specs.Counts.{IsPrefixLen};
+ghost use Rattle.std.specs.Prelude.{◌≡◌, None, IfSome, length};
+ghost use Rattle.morning.specs.Reading.{start_night, after_all, rows_after_all, names_after_all};
 
 use morning::Night;
+use std::io::{Error, Read};
 
-// How the night stands at the end of the file, and whether an error ended the reading.
+// How the night stands at the end of the file, and the error that ended the reading, if one did.
 #[derive(Clone, Copy)]
 pub(crate) struct NightRead {
     pub(crate) night: Night,
-    pub(crate) failed: bool,
+    pub(crate) failed: Option<Error>,
 }
 
-// What came of one reading: whether there may be more.
-#[derive(Clone, Copy)]
-struct Turn {
-    night: Night,
-    more: bool,
-    failed: bool,
-}
-
-// Reads once, and takes in what came.
-fn read_some(fd: i32, night: Night, rows: &mut [u64], names: &mut [u8]) -> Turn {
-    let mut buffer = io::large_buffer();
-    let got = libc::read(fd, &mut buffer);
-    if got < 0 {
-        return Turn {
-            night: night,
-            more: false,
-            failed: true,
-        };
-    }
-    if got == 0 {
-        return Turn {
-            night: night,
-            more: false,
-            failed: false,
-        };
-    }
-    let count = io::count(got, &buffer);
-    let next = morning::night_text(night, &buffer[..count], rows, names);
-    Turn {
-        night: next,
-        more: true,
-        failed: false,
-    }
-}
-
-// Reads to the end of the file. A proved loop has to end, and nothing says that a file does: so the turns are counted down, from a number that no
-// machine comes to the end of; that end would count as an error.
-pub(crate) fn read_night(fd: i32, rows: &mut [u64], names: &mut [u8]) -> NightRead {
+// Reads to the end of the file. A proved loop has to end, and nothing says that a file does: so the turns are counted, up to a number that no
+// machine comes to; coming to it would count as an error. Of a reader whose bytes are known the promise says that, without an error, all of them are
+// taken in, in whatever pieces they came.
+pub(crate) fn read_night<R: Read>(reader: &mut R, rows: &mut [u64], names: &mut [u8]) -> NightRead
+    ensures night { result.failed ≡ None → IfSome (R.remaining reader.old)
+        (λ text. result.night ≡ after_all (length rows.old) (length names.old) start_night text) }
+    ensures rows_after { result.failed ≡ None → IfSome (R.remaining reader.old)
+        (λ text. rows.new ≡ rows_after_all (length names.old) start_night text rows.old) }
+    ensures names_after { result.failed ≡ None → IfSome (R.remaining reader.old)
+        (λ text. names.new ≡ names_after_all (length rows.old) start_night text names.old) }
+{
+    let mut buffer = [0u8; 65536];
     let mut night = morning::start_night();
-    let mut turns = 18446744073709551615u64;
-    while 0 < turns {
-        let turn = read_some(fd, night, rows, names);
-        night = turn.night;
-        if !turn.more {
-            return NightRead {
-                night: night,
-                failed: turn.failed,
-            };
+    for _ in 0..u64::MAX {
+        match reader.read(&mut buffer) {
+            Ok(0) => {
+                return NightRead {
+                    night: night,
+                    failed: None,
+                };
+            }
+            Ok(count) => night = morning::night_text(night, &buffer[..count], rows, names),
+            Err(error) => {
+                return NightRead {
+                    night: night,
+                    failed: Some(error),
+                };
+            }
         }
-        turns -= 1;
     }
     NightRead {
         night: night,
-        failed: true,
+        failed: Some(Error::other("the file does not end")),
     }
 }

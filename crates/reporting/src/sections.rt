@@ -3,31 +3,31 @@ ghost use Rattle.std.specs.Prelude.{◌≤◌};
 
 use crate::words;
 use morning::{Cursor, Entry, Night};
+use std::io::{Result, Write};
 
 // Writes how many schedules have each of the bad verdicts.
-fn write_bad_counts(fd: i32, counts: [u64; 7]) -> bool {
-    let incomplete = words::write_number(fd, b"    incomplete: ", counts[0], b"\n");
-    let refused = words::write_number(fd, b"    refused: ", counts[1], b"\n");
-    let actions = words::write_number(fd, b"    refused actions: ", counts[2], b"\n");
-    let cut = words::write_number(fd, b"    cut: ", counts[3], b"\n");
-    incomplete & refused & actions & cut
+fn write_bad_counts<W: Write>(out: &mut W, counts: [u64; 7]) -> Result<()> {
+    let [incomplete, refused, actions, cut, _, _, _] = counts;
+    writeln!(out, "    incomplete: {incomplete}")?;
+    writeln!(out, "    refused: {refused}")?;
+    writeln!(out, "    refused actions: {actions}")?;
+    writeln!(out, "    cut: {cut}")
 }
 
 // Writes how many have each of the others.
-fn write_other_counts(fd: i32, counts: [u64; 7]) -> bool {
-    let lost = words::write_number(fd, b"    locks lost: ", counts[4], b"\n");
-    let failed = words::write_number(fd, b"    takes failed: ", counts[5], b"\n");
-    let good = words::write_number(fd, b"    good: ", counts[6], b"\n");
-    lost & failed & good
+fn write_other_counts<W: Write>(out: &mut W, counts: [u64; 7]) -> Result<()> {
+    let [_, _, _, _, lost, failed, good] = counts;
+    writeln!(out, "    locks lost: {lost}")?;
+    writeln!(out, "    takes failed: {failed}")?;
+    writeln!(out, "    good: {good}")
 }
 
 // Writes how many schedules there are, and how many have each verdict.
-fn write_counts(fd: i32, counts: [u64; 7]) -> bool {
+fn write_counts<W: Write>(out: &mut W, counts: [u64; 7]) -> Result<()> {
     let schedules = morning::all_of(counts);
-    let title = words::write_number(fd, b"Morning report. Schedules: ", schedules, b"\n\n");
-    let bad = write_bad_counts(fd, counts);
-    let others = write_other_counts(fd, counts);
-    title & bad & others
+    writeln!(out, "Morning report. Schedules: {schedules}\n")?;
+    write_bad_counts(out, counts)?;
+    write_other_counts(out, counts)
 }
 
 // The smaller of two numbers.
@@ -42,25 +42,17 @@ fn least(one: usize, other: usize) -> usize
 }
 
 // Writes the name of a listed schedule.
-fn write_name(fd: i32, entry: Entry, names: &[u8]) -> bool {
+fn write_name<W: Write>(out: &mut W, entry: Entry, names: &[u8]) -> Result<()> {
     let end = least(entry.end as usize, names.len());
     let start = least(entry.start as usize, end);
-    io::write_all(fd, &names[start..end])
+    out.write_all(&names[start..end])
 }
 
 // Writes a listed schedule: its verdict and its name, and in a second line what it rests on and what to do.
-fn write_entry(fd: i32, entry: Entry, names: &[u8]) -> bool {
-    let verdict = words::write_verdict(fd, entry.verdict);
-    let name = write_name(fd, entry, names);
-    let rest = words::write_rest(fd, entry);
-    verdict & name & rest
-}
-
-// Where the listing stands, and whether all was written.
-#[derive(Clone, Copy)]
-struct Listing {
-    cursor: Cursor,
-    written: bool,
+fn write_entry<W: Write>(out: &mut W, entry: Entry, names: &[u8]) -> Result<()> {
+    words::write_verdict(out, entry.verdict)?;
+    write_name(out, entry, names)?;
+    words::write_rest(out, entry)
 }
 
 // Whether a verdict belongs to the bad ones, or else to those to be looked at.
@@ -71,67 +63,53 @@ fn belongs(bad: bool, verdict: u64) -> bool {
     verdict::is_looked_at(verdict)
 }
 
-// Writes the listed schedules from one on, as far as they are bad, or else to be looked at.
-fn write_entries(
-    fd: i32,
+// Writes the listed schedules from one on, as far as they are bad, or else to be looked at, and answers where the listing then stands.
+fn write_entries<W: Write>(
+    out: &mut W,
     rows: &[u64],
     names: &[u8],
     listed: usize,
     start: Cursor,
     bad: bool,
-) -> Listing {
+) -> Result<Cursor> {
     let mut cursor = start;
-    let mut written = true;
-    let mut left = listed;
-    while 0 < left {
-        if belongs(bad, cursor.verdict) {
-            let one = write_entry(fd, morning::entry_at(rows, cursor.place), names);
-            written = written & one;
-            cursor = morning::next_entry(rows, listed, cursor);
-            left -= 1;
-        } else {
-            return Listing {
-                cursor: cursor,
-                written: written,
-            };
+    for _ in 0..listed {
+        if !belongs(bad, cursor.verdict) {
+            break;
         }
+        write_entry(out, morning::entry_at(rows, cursor.place), names)?;
+        cursor = morning::next_entry(rows, listed, cursor);
     }
-    Listing {
-        cursor: cursor,
-        written: written,
-    }
+    Ok(cursor)
 }
 
 // Writes how many are not listed for want of room, if any.
-fn write_unlisted(fd: i32, unlisted: u64) -> bool {
+fn write_unlisted<W: Write>(out: &mut W, unlisted: u64) -> Result<()> {
     if 0 < unlisted {
-        return words::write_number(
-            fd,
-            b"\nNOT LISTED: ",
-            unlisted,
-            b" that are not good, for want of room: look at their lines\n",
-        );
+        writeln!(
+            out,
+            "\nNOT LISTED: {unlisted} that are not good, for want of room: look at their lines"
+        )?;
     }
-    true
+    Ok(())
 }
 
 // Writes the whole report. Its last line begins with GOOD.
-pub(crate) fn write_report(fd: i32, night: Night, rows: &[u64], names: &[u8]) -> bool {
+pub(crate) fn write_report<W: Write>(
+    out: &mut W,
+    night: Night,
+    rows: &[u64],
+    names: &[u8],
+) -> Result<()> {
     let counts = night.counts;
     let listed = night.listed;
-    let heading = write_counts(fd, counts);
-    let bad_heading = words::write_bad(fd, morning::bad_of(counts));
-    let bad = write_entries(
-        fd,
-        rows,
-        names,
-        listed,
-        morning::first_entry(rows, listed),
-        true,
-    );
-    let looked_at_heading = words::write_looked_at(fd, morning::looked_at_of(counts));
-    let looked_at = write_entries(fd, rows, names, listed, bad.cursor, false);
-    let unlisted = write_unlisted(fd, night.unlisted);
-    let good = words::write_number(fd, b"\nGOOD: ", counts[6], b"\n");
-    heading & bad_heading & bad.written & looked_at_heading & looked_at.written & unlisted & good
+    let good = counts[6];
+    write_counts(out, counts)?;
+    words::write_bad(out, morning::bad_of(counts))?;
+    let first = morning::first_entry(rows, listed);
+    let looked_at = write_entries(out, rows, names, listed, first, true)?;
+    words::write_looked_at(out, morning::looked_at_of(counts))?;
+    write_entries(out, rows, names, listed, looked_at, false)?;
+    write_unlisted(out, night.unlisted)?;
+    writeln!(out, "\nGOOD: {good}")
 }

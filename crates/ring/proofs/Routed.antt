@@ -1,6 +1,6 @@
 -- Going along the route of a ring is the walk along it: number by number on the one side, by recursion on the other.
 use Prim.Native.Nat.{ℕ, zero, suc, ◌+◌, ◌≤◌, ◌<◌}
-use mathlib.Core.Path.{◌≡◌, refl, sym, ap, ap₂, ◌∙◌, subst}
+use mathlib.Core.Path.{◌≡◌, refl, sym, ap, ap₂, ◌∙◌}
 use mathlib.Core.Bool.{Bool, true, false, cond, ◌||◌, or-false}
 use mathlib.Core.List.{List, [], ◌∷◌, ◌++◌, append_assoc, append-nil}
 use native.Mathlib.Nat.{add-zero}
@@ -15,8 +15,6 @@ use Rattle.positions.specs.Ring.{Ring, no_more, user_node, a_junction, nodes_in,
 use Rattle.plan.specs.declared.Plan.{Plan}
 use Rattle.plan.specs.Plan.{junction_places, positions_read, ring_of, in_range}
 use Rattle.plan.proofs.Laws.{in_range_lem, ring_junctions_most}
-use Rattle.route.specs.declared.Leg.{Leg}
-use Rattle.route.specs.declared.Leg.TheVariants.{Nowhere, At, Into, Out}
 use Rattle.route.specs.Route.{into_number, out_number, leg_of, route_at, route_of, laid_in}
 use Rattle.route.proofs.Legs.{leg_node, leg_into, leg_out}
 use Rattle.route.proofs.Fitting.{laid_in_room, laid_taken, laid_route}
@@ -28,7 +26,7 @@ use Rattle.ring.specs.declared.State.{State}
 use Rattle.ring.specs.declared.Entered.{Entered}
 use Rattle.ring.specs.State.{rest_node, rest_junction}
 use Rattle.ring.specs.Walk.{Walk, node_here, junction_here, turn_here, on_node, wanted, enters, leaves, along, setting_out, walk}
-use Rattle.ring.specs.Step.{StepTold, step_number, next_state, refused, done, moving}
+use Rattle.ring.specs.Step.{step_number, next_state, refused, done, moving}
 use Rattle.ring.specs.Trip.{Trip, unopened, at_node, into_junction, out_of_junction, on_leg, going, sets_out, trip, trip_number, trip_done, moving_along}
 
 -- three tests, one of which holds

@@ -2,105 +2,66 @@
 // is wrong in a text that is no run.
 #![tactic(auto)]
 
-ghost use Rattle.io.specs.Counts.{IsPrefixLen};
+ghost use Rattle.std.specs.Prelude.{◌≡◌, None, IfSome};
+ghost use Rattle.gather.specs.Gathering.{start_gather, after_all, rows_after_all};
 
 use gather::{Fault, Gather};
+use std::io::{Error, Read, Result, Write};
 
-// How the gathering stands at the end of the file, and whether an error ended the reading.
+// How the gathering stands at the end of the file, and the error that ended the reading, if one did.
 #[derive(Clone, Copy)]
 pub struct RunsRead {
     pub state: Gather,
-    pub failed: bool,
+    pub failed: Option<Error>,
 }
 
-// What came of one reading: whether there may be more.
-#[derive(Clone, Copy)]
-struct Turn {
-    state: Gather,
-    more: bool,
-    failed: bool,
-}
-
-// Reads once, and gathers what came.
-fn read_some(fd: i32, state: Gather, rows: &mut [u64]) -> Turn {
-    let mut buffer = io::large_buffer();
-    let got = libc::read(fd, &mut buffer);
-    if got < 0 {
-        return Turn {
-            state: state,
-            more: false,
-            failed: true,
-        };
-    }
-    if got == 0 {
-        return Turn {
-            state: state,
-            more: false,
-            failed: false,
-        };
-    }
-    let count = io::count(got, &buffer);
-    let next = gather::gather_text(state, &buffer[..count], rows);
-    Turn {
-        state: next,
-        more: true,
-        failed: false,
-    }
-}
-
-// Reads to the end of the file. A proved loop has to end, and nothing says that a file does: so the turns are counted down, from a number that no
-// machine comes to the end of; that end would count as an error.
-pub fn read_runs(fd: i32, rows: &mut [u64]) -> RunsRead {
+// Reads to the end of the file. A proved loop has to end, and nothing says that a file does: so the turns are counted, up to a number that no
+// machine comes to; coming to it would count as an error. Of a reader whose bytes are known the promise says that, without an error, all of them are
+// gathered, in whatever pieces they came.
+pub fn read_runs<R: Read>(reader: &mut R, rows: &mut [u64]) -> RunsRead
+    ensures state { result.failed ≡ None → IfSome (R.remaining reader.old) (λ text. result.state ≡ after_all start_gather text) }
+    ensures rows_after { result.failed ≡ None → IfSome (R.remaining reader.old) (λ text. rows.new ≡ rows_after_all start_gather text rows.old) }
+{
+    let mut buffer = [0u8; 65536];
     let mut state = gather::start_gather();
-    let mut turns = 18446744073709551615u64;
-    while 0 < turns {
-        let turn = read_some(fd, state, rows);
-        state = turn.state;
-        if !turn.more {
-            return RunsRead {
-                state: state,
-                failed: turn.failed,
-            };
+    for _ in 0..u64::MAX {
+        match reader.read(&mut buffer) {
+            Ok(0) => {
+                return RunsRead {
+                    state: state,
+                    failed: None,
+                };
+            }
+            Ok(count) => state = gather::gather_text(state, &buffer[..count], rows),
+            Err(error) => {
+                return RunsRead {
+                    state: state,
+                    failed: Some(error),
+                };
+            }
         }
-        turns -= 1;
     }
     RunsRead {
         state: state,
-        failed: true,
+        failed: Some(Error::other("the file does not end")),
     }
 }
 
-// Writes what is wrong.
-fn write_words(fd: i32, fault: Fault) {
+// What is wrong, in words.
+fn words(fault: Fault) -> &'static str {
     match fault {
-        Fault::Fine => {
-            io::write_all(fd, b"nothing is wrong\n");
-        }
-        Fault::NoLine => {
-            io::write_all(fd, b"not a line that the night program writes\n");
-        }
-        Fault::DeedBehindLock => {
-            io::write_all(fd, b"an action or an event behind an H line\n");
-        }
-        Fault::LockOutOfOrder => {
-            io::write_all(fd, b"an H line that is not the next lock's\n");
-        }
-        Fault::RefusalInside => {
-            io::write_all(fd, b"a Q line inside a run\n");
-        }
-        Fault::NoNewline => {
-            io::write_all(fd, b"the text ends inside a line\n");
-        }
-        Fault::NoLastLine => {
-            io::write_all(fd, b"the text ends inside a run, before its E or C line\n");
-        }
+        Fault::Fine => "nothing is wrong",
+        Fault::NoLine => "not a line that the night program writes",
+        Fault::DeedBehindLock => "an action or an event behind an H line",
+        Fault::LockOutOfOrder => "an H line that is not the next lock's",
+        Fault::RefusalInside => "a Q line inside a run",
+        Fault::NoNewline => "the text ends inside a line",
+        Fault::NoLastLine => "the text ends inside a run, before its E or C line",
     }
 }
 
 // Writes which line of the text is no part of a run, by its number from 1, and what is wrong.
-pub fn write_fault(fd: i32, fault: Fault, line: u64) {
-    io::write_all(fd, b"line ");
-    io::print_decimal(fd, line);
-    io::write_all(fd, b": ");
-    write_words(fd, fault);
+pub fn write_fault<W: Write>(out: &mut W, fault: Fault, line: u64) -> Result<()> {
+    let wrong = words(fault);
+    writeln!(out, "line {line}: {wrong}")
 }

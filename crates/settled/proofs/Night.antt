@@ -27,7 +27,7 @@ items =
 pub lines : Lines
 lines =
     record {
-      written_number_lem = (λ a. tt, λ a x y d e. same);
+      written_number = (λ a. tt, λ a x y d e. same);
       write_line_buffer = λ κ a x y d e p q. same p.1 q.1;
       write_line = λ κ. (λ a. tt, λ a x y d e p q. written_apart x y (same p.0 q.0));
       write_row_buffer = λ κ a x y d e p q. same p.1 q.1;

@@ -1,6 +1,6 @@
 -- The item reader that holds the schedule, and `item_from` over it: each asks nothing of its caller, and its promise leaves one possible answer.
--- Their proofs are walks by hand, and the check reads no `Learnt` off such a contract. So what each contract says is stated here, in every model
--- of the program logic that the contract is read in: nothing is required, and what is ensured is one fact, by which the answer is settled.
+-- What each contract says is stated here of its clauses themselves, and not of the `Learnt` that the check reads off them, in every model of the
+-- program logic that the contract is read in: nothing is required, and what is ensured is one fact, by which the answer is settled.
 use Rattle.std.specs.Prelude.{ℕ, ◌≡◌, List}
 use base.Logic.{emp}
 use contract.Lifetimes.{Lfts}

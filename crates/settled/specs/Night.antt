@@ -13,7 +13,7 @@ use Rattle.items.proofs.item_number.Reads as item_number
 use Rattle.items.proofs.item_place.Reads as item_place
 use Rattle.items.proofs.place_at.Reads as place_at
 use Rattle.items.proofs.Cursor.read.Reads as read
-use Rattle.lines.proofs.written_number.Reads as written_number_lem
+use Rattle.lines.proofs.written_number.Reads as written_number
 use Rattle.lines.proofs.write_line.Reads as write_line
 use Rattle.lines.proofs.write_row.Reads as write_row
 use Rattle.wording.proofs.action_line.Reads as action_line
@@ -52,7 +52,7 @@ pub record Items : Type 0 where
 
 -- lines
 pub record Lines : Type 0 where
-  pub written_number_lem : Settled (written_number_lem.Asked tt) (written_number_lem.Learnt tt)
+  pub written_number : Settled (written_number.Asked tt) (written_number.Learnt tt)
   pub write_line_buffer : (κ : Lfts 2) → OneTold (λ r e. e.0.now) (write_line.Learnt κ)
   pub write_line : (κ : Lfts 2) → Settled (write_line.Asked κ) (write_line.Learnt κ)
   pub write_row_buffer : (κ : Lfts 2) → OneTold (λ r e. e.0.now) (write_row.Learnt κ)

@@ -2,56 +2,70 @@
 // one line, "0 Q number 0". Text that is no run is told on standard error, and nothing is then written to standard output.
 #![tactic(auto)]
 
-use gather::{Fault, Gather};
-use libc::{STDERR_FILENO, STDIN_FILENO, STDOUT_FILENO};
+ghost use Rattle.std.specs.Prelude.{◌≡◌, true, false, OnOk};
+ghost use Rattle.std.specs.Io.KnownBytes.{Appends, Keeps};
+ghost use Rattle.gather.specs.Gathering.{fault_of, is_fine, whole_rows};
+ghost use Rattle.sums.specs.Sheet.{sheet_told, making};
+ghost use Rattle.sums.specs.Text.{sheet_text};
+ghost use Rattle.sums.specs.declared.MadeSheet.{MadeSheet};
+
+use gather::Gather;
 use lines::Written;
+use std::io::{Error, Result, Write};
+use std::process::ExitCode;
 use sums::MadeSheet;
 
 // Room for the rows of 401 runs: one more than a sheet takes.
 const ROOM: usize = 77794;
 
 // Says how many refused runs are left out, if any.
-fn say_refused(refused: u64) {
+fn say_refused<W: Write>(told: &mut W, refused: u64) {
     if 0 < refused {
-        io::write_all(STDERR_FILENO, b"sheet: refused runs left out: ");
-        io::print_decimal(STDERR_FILENO, refused);
-        io::write_all(STDERR_FILENO, b"\n");
+        let _ = writeln!(told, "sheet: refused runs left out: {refused}");
     }
 }
 
-// Writes the sheet.
-fn write_out(made: MadeSheet) {
-    let mut buffer = io::large_buffer();
-    let written = sums::write_sheet(made, &mut buffer);
-    match written {
-        Written::TooShort => {}
-        Written::Length(length) => {
-            if !io::write_all(STDOUT_FILENO, &buffer[..length]) {
-                os::fail(b"sheet: standard output");
-            }
-        }
+// Writes the sheet: its whole text, where no write fails.
+fn write_out<W: Write>(out: &mut W, made: MadeSheet) -> Result<()>
+    ensures { OnOk result (Appends (W.contents out.old) (W.contents out.new) (sheet_text made)) }
+{
+    let mut buffer = [0u8; 65536];
+    match sums::write_sheet(made, &mut buffer) {
+        Written::TooShort => Ok(()),
+        Written::Length(length) => out.write_all(&buffer[..length]),
     }
 }
 
-// Says what is wrong with the text, or writes its sheet.
-fn answer(state: Gather, rows: &[u64]) {
+// Says what is wrong with the text, or writes its sheet. What cannot be told is left untold.
+fn answer<W: Write, T: Write>(out: &mut W, told: &mut T, state: Gather, rows: &[u64]) -> Result<()>
+    ensures sheet { is_fine (fault_of state) ≡ true → OnOk result ((made : MadeSheet) × (sheet_told made ≡ making (whole_rows state rows.now))
+        × Appends (W.contents out.old) (W.contents out.new) (sheet_text made)) }
+    ensures none { is_fine (fault_of state) ≡ false → Keeps (W.contents out.old) (W.contents out.new) }
+{
     let fault = gather::fault_of(state);
     if gather::is_fine(fault) {
-        say_refused(state.refused);
-        write_out(gather::sheet_of(state, rows));
-    } else {
-        io::write_all(STDERR_FILENO, b"sheet: ");
-        runsfile::write_fault(STDERR_FILENO, fault, gather::line_number(state));
+        say_refused(told, state.refused);
+        return write_out(out, gather::sheet_of(state, rows));
     }
+    let _ = told.write_all(b"sheet: ");
+    let _ = runsfile::write_fault(told, fault, gather::line_number(state));
+    Ok(())
 }
 
-fn main() {
+// Says on standard error what failed, and ends with the status of a failure.
+fn fail(rt: &impl Eprint, what: &str, error: Error) -> ExitCode {
+    let _ = eprintln!(rt; "sheet: {what}: {error}");
+    ExitCode::FAILURE
+}
+
+fn main(rt: HostRuntime) -> ExitCode {
     let mut rows = [0u64; ROOM];
-    let read = runsfile::read_runs(STDIN_FILENO, &mut rows);
-    if read.failed {
-        os::fail(b"sheet: standard input");
-        return;
+    let read = runsfile::read_runs(&mut rt.stdin(), &mut rows);
+    if let Some(error) = read.failed {
+        return fail(&rt, "standard input", error);
     }
-    let state = read.state;
-    answer(state, &rows);
+    match answer(&mut rt.stdout(), &mut rt.stderr(), read.state, &rows) {
+        Ok(()) => ExitCode::SUCCESS,
+        Err(error) => fail(&rt, "standard output", error),
+    }
 }

@@ -4,27 +4,29 @@
 #![tactic(auto)]
 
 use gather::Gather;
-use libc::STDOUT_FILENO;
 use lines::Written;
+use std::env::Env;
+use std::io;
+use std::io::Result;
+use std::rt::Files;
 
 // Room for the rows of 401 runs.
 const ROOM: usize = 77794;
 
 // Whether the sheet of a text is written as expected.
 fn sheet_agrees(state: Gather, rows: &[u64], expected: &[u8]) -> bool {
-    let mut buffer = io::large_buffer();
-    let written = sums::write_sheet(gather::sheet_of(state, rows), &mut buffer);
-    match written {
+    let mut buffer = [0u8; 65536];
+    match sums::write_sheet(gather::sheet_of(state, rows), &mut buffer) {
         Written::TooShort => false,
         Written::Length(length) => check::same(&buffer[..length], expected),
     }
 }
 
 // A text that is a text of runs: whether its sheet is the one expected. An expectation that fills its buffer may have more, and differs.
-fn runs_agree(argument: usize, state: Gather, rows: &[u64]) -> bool {
-    let mut buffer = io::large_buffer();
-    let expected = casefiles::read_case(argument, b".out", &mut buffer);
-    if expected.failed {
+fn runs_agree<R: Env + Files>(rt: &R, argument: usize, state: Gather, rows: &[u64]) -> bool {
+    let mut buffer = [0u8; 65536];
+    let expected = casefiles::read_case(rt, argument, b".out", &mut buffer);
+    if expected.failed.is_some() {
         return false;
     }
     let length = expected.length;
@@ -35,55 +37,52 @@ fn runs_agree(argument: usize, state: Gather, rows: &[u64]) -> bool {
 }
 
 // Whether a text that is no run is expected.
-fn fault_expected(argument: usize) -> bool {
-    let fd = casefiles::open_case(argument, b".bad");
-    if fd < 0 {
-        return false;
-    }
-    libc::close(fd);
-    true
+fn fault_expected<R: Env + Files>(rt: &R, argument: usize) -> bool {
+    casefiles::open_case(rt, argument, b".bad").is_ok()
 }
 
 // Shows how a case ended whose text has been read, and answers with it; of a text that is no run also the line that is named.
-fn show_read(argument: usize, state: Gather, rows: &[u64]) -> bool {
+fn show_read<R: Env + Files + Print>(
+    rt: &R,
+    argument: usize,
+    state: Gather,
+    rows: &[u64],
+) -> Result<bool> {
     let fault = gather::fault_of(state);
     if gather::is_fine(fault) {
-        let agrees = runs_agree(argument, state, rows);
-        casefiles::show_result(argument, agrees);
-        return agrees;
+        let agrees = runs_agree(rt, argument, state, rows);
+        casefiles::show_result(rt, argument, agrees)?;
+        return Ok(agrees);
     }
-    let expected = fault_expected(argument);
-    casefiles::show_result(argument, expected);
-    io::write_all(STDOUT_FILENO, b"    ");
-    runsfile::write_fault(STDOUT_FILENO, fault, gather::line_number(state));
-    expected
+    let expected = fault_expected(rt, argument);
+    casefiles::show_result(rt, argument, expected)?;
+    print!(rt; "    ")?;
+    runsfile::write_fault(&mut io::writer(rt), fault, gather::line_number(state))?;
+    Ok(expected)
 }
 
 // Shows how one case ended, and answers with it. What cannot be opened or read differs.
-fn show_case(argument: usize) -> bool {
+fn show_case<R: Env + Files + Print>(rt: &R, argument: usize) -> Result<bool> {
     let mut rows = [0u64; ROOM];
-    let fd = casefiles::open_case(argument, b".txt");
-    let read = runsfile::read_runs(fd, &mut rows);
-    libc::close(fd);
-    if read.failed {
-        casefiles::show_result(argument, false);
-        return false;
-    }
-    let state = read.state;
-    show_read(argument, state, &rows)
-}
-
-fn main() {
-    let count = os::arg_count();
-    let mut agreed: usize = 0;
-    let mut argument: usize = 1;
-    while argument < count {
-        if show_case(argument) {
-            agreed += 1;
-            argument += 1;
-        } else {
-            argument += 1;
+    if let Ok(mut file) = casefiles::open_case(rt, argument, b".txt") {
+        let read = runsfile::read_runs(&mut file, &mut rows);
+        if read.failed.is_none() {
+            return show_read(rt, argument, read.state, &rows);
         }
     }
-    casefiles::show_total(agreed, argument - 1);
+    casefiles::show_result(rt, argument, false)?;
+    Ok(false)
+}
+
+fn main(rt: HostRuntime) -> Result<()> {
+    let count = casefiles::arg_count(&rt);
+    let mut agreed: usize = 0;
+    let mut tried: usize = 0;
+    for argument in 1..count {
+        if show_case(&rt, argument)? {
+            agreed += 1;
+        }
+        tried += 1;
+    }
+    casefiles::show_total(&rt, agreed, tried)
 }

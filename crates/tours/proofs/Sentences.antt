@@ -1,14 +1,14 @@
 -- The car leads to the sentence of 01 that applies, outside a tour and in one. By the car, and then by the tests that are left.
 use Prim.Native.Nat.{ℕ}
 use mathlib.Core.Path.{◌≡◌, refl, ap, ◌∙◌}
-use mathlib.Core.Bool.{Bool, true, false, cond, ◌&&◌}
+use mathlib.Core.Bool.{Bool, true, false, cond}
 use Rattle.words.specs.Words.{has}
 use Rattle.cars.specs.declared.Tag.{Tag}
 use Rattle.cars.specs.declared.Car.{Car}
 use Rattle.cars.specs.declared.Car.TheVariants.{Idle, Token, Null, Reqp, Failp, Dov, Gotp, Didv}
 use Rattle.cars.specs.Kinds.{is_idle_car, is_token_car, reqp_that, gotp_that, didv_that}
 use Rattle.tours.specs.declared.JunctionRule.{JunctionRule}
-use Rattle.tours.specs.declared.JunctionRule.TheVariants.{GoesOn, FailsReqp, Begins, Drops, TokenOut, CarOut, SetsBit, ClearsBit, Ends}
+use Rattle.tours.specs.declared.JunctionRule.TheVariants.{GoesOn, FailsReqp, Begins, CarOut, SetsBit, ClearsBit}
 use Rattle.tours.specs.Rules.{within, outside, if_train, on_gotp, on_didv, in_tour}
 use Rattle.tours.specs.Sentences.{sentence_number, from_subring, outside_sentence, tour_sentence}
 use Rattle.tours.specs.Theorems.{SentenceOutside, SentenceInTour}

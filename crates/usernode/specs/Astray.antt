@@ -1,6 +1,6 @@
 -- 01, number 15: "own reqp, failp or dov arrives and the node isn't waiting for that kind and lock, or its flag is clear,
 -- or it holds the lock or is letting it go"; "A failp answers a waiting reqp."
-use Rattle.std.specs.Prelude.{ℕ, Bool, true, false, ◌&&◌, ◌||◌, not, eqb}
+use Rattle.std.specs.Prelude.{ℕ, Bool, false, ◌&&◌, ◌||◌, not, eqb}
 use Rattle.cars.specs.declared.Tag.{Tag}
 use Rattle.cars.specs.declared.Car.{Car}
 use Rattle.cars.specs.declared.Car.TheVariants.{Idle, Token, Null, Reqp, Failp, Dov, Gotp, Didv}

@@ -1,5 +1,5 @@
 -- 01, "User node, first rule that fits": which of the nine rules fits the car that arrives. What a rule does is in crate turns.
-use Rattle.std.specs.Prelude.{ℕ, Bool, cond, eqb}
+use Rattle.std.specs.Prelude.{ℕ, cond, eqb}
 use Rattle.words.specs.Words.{has, least}
 use Rattle.cars.specs.declared.Tag.{Tag}
 use Rattle.cars.specs.declared.Car.{Car}

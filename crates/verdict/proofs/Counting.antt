@@ -139,7 +139,7 @@ run_locks run is =
       count_append 72 run.deeds (run.locks ++ (run.last ∷ [])),
       count_append 72 run.locks (run.last ∷ []),
       deeds_none is.deeds_right,
-      locks_all is.locks_right_lem,
+      locks_all is.locks_right,
       last,
     )
 

@@ -21,7 +21,7 @@ use Rattle.verdict.specs.declared.Verdict.TheVariants.{Incomplete, Refused, Refu
 use Rattle.verdict.specs.declared.Noted.{Noted}
 use Rattle.verdict.specs.declared.Watch.{Watch}
 use Rattle.verdict.specs.declared.Judged.{Judged}
-use Rattle.verdict.specs.Verdicts.{verdict_number, no_notes, start_watch, watch_all, is_arun, is_arefusal, is_whole, by_notes, without, worst, judged, verdict_of}
+use Rattle.verdict.specs.Verdicts.{verdict_number, no_notes, start_watch, watch_all, is_a_run, is_a_refusal, is_whole, by_notes, without, worst, judged, verdict_of}
 use Rattle.verdict.specs.Lines.{count_of, notes_of, lines_in, worst_line, LocksFit, of_a_run, of_a_refusal}
 use Rattle.verdict.specs.Theorems.{TheWorstLineDecides, AllElseIsIncomplete, WholeRunsAreNot, GoodHasNoBadLine, TheFirstLetterDecides, ALineMoreIsNeverBetter, EachHasItsNumber}
 use Rattle.verdict.proofs.Watching.{same_gather, noted_lines, watched_by, AreLines, lines_watched}
@@ -56,7 +56,7 @@ lines_are : {piece : Piece} → Pieces (piece ∷ []) → AreLines (lines_in pie
 unfolding lines_in
 lines_are (Pieces.one_run {run = run} is no_more) =
     deeds_are (run.locks ++ (run.last ∷ [])) is.deeds_right
-    (locks_are (run.last ∷ []) is.locks_right_lem (AreLines.one_more is.last_right.is_line AreLines.none))
+    (locks_are (run.last ∷ []) is.locks_right (AreLines.one_more is.last_right.is_line AreLines.none))
 lines_are (Pieces.one_refused k no_more) = AreLines.one_more k.is_line AreLines.none
 
 -- ---- the text of one piece
@@ -116,13 +116,13 @@ locks_counted {run} (Pieces.one_run is no_more) =
 
 -- ---- it is whole
 
-a_run : (runs refused locks : ℕ) → runs ≡ 1 → refused ≡ 0 → 1 ≤ locks → locks ≤ 64 → is_arun runs refused locks ≡ true
-unfolding is_arun
+a_run : (runs refused locks : ℕ) → runs ≡ 1 → refused ≡ 0 → 1 ≤ locks → locks ≤ 64 → is_a_run runs refused locks ≡ true
+unfolding is_a_run
 a_run runs refused locks one none some most =
     and_both (eq-eqb runs 1 one) (and_both (eq-eqb refused 0 none) (and_both (le-leb 1 locks some) (le-leb locks 64 most)))
 
-a_refusal : (runs refused : ℕ) → runs ≡ 0 → refused ≡ 1 → is_arefusal runs refused ≡ true
-unfolding is_arefusal
+a_refusal : (runs refused : ℕ) → runs ≡ 0 → refused ≡ 1 → is_a_refusal runs refused ≡ true
+unfolding is_a_refusal
 a_refusal runs refused none one = and_both (eq-eqb runs 0 none) (eq-eqb refused 1 one)
 
 whole : {piece : Piece} → Pieces (piece ∷ []) → LocksFit piece → is_whole (watched_piece piece) ≡ true
@@ -132,12 +132,12 @@ whole right (of_a_run {run = run} some most) =
     let locks : ℕ = (noted_lines 72 (lines_in (ran run)) no_notes).count in
     let many : locks ≡ min (length run.locks) (2 ^ 64 - 1) = locks_counted right in
     and_both (ap is_fine (piece_fine right))
-    (or_by_first (is_arun g.runs g.refused locks) (is_arefusal g.runs g.refused)
+    (or_by_first (is_a_run g.runs g.refused locks) (is_a_refusal g.runs g.refused)
     (a_run g.runs g.refused locks (run-counted right) (run-not-refused right) (omega (arith, many, some)) (omega (arith, many, most))))
 whole right (of_a_refusal {l = l}) =
     let g : Gather = after_all start_gather (piece_text (left_out l)) in
     and_both (ap is_fine (piece_fine right))
-    (or_by_second (is_arun g.runs g.refused (noted_lines 72 (lines_in (left_out l)) no_notes).count) (is_arefusal g.runs g.refused)
+    (or_by_second (is_a_run g.runs g.refused (noted_lines 72 (lines_in (left_out l)) no_notes).count) (is_a_refusal g.runs g.refused)
     (a_refusal g.runs g.refused (refusal_no_run right) (refusal_counted right)))
 
 pub the_worst_line_decides : TheWorstLineDecides
@@ -196,17 +196,17 @@ only_fine NoNewline e = absurd (true≢false (sym e))
 only_fine NoLastLine e = absurd (true≢false (sym e))
 
 -- one run, or one refused one, is one in all
-one_in_all : (runs refused locks : ℕ) → (is_arun runs refused locks || is_arefusal runs refused) ≡ true → runs + refused ≡ 1
-unfolding is_arun is_arefusal
+one_in_all : (runs refused locks : ℕ) → (is_a_run runs refused locks || is_a_refusal runs refused) ≡ true → runs + refused ≡ 1
+unfolding is_a_run is_a_refusal
 one_in_all runs refused locks e =
-    by_value (λ (b : Bool). runs + refused ≡ 1) (is_arun runs refused locks)
+    by_value (λ (b : Bool). runs + refused ≡ 1) (is_a_run runs refused locks)
     (λ t.
     let others : Bool = leb 1 locks && leb locks 64 in
     let ran_once : runs ≡ 1 = eqb-true runs 1 (and_left (eqb runs 1) (eqb refused 0 && others) t) in
     let none : refused ≡ 0 = eqb-true refused 0 (and_left (eqb refused 0) others (and_right (eqb runs 1) (eqb refused 0 && others) t)) in
     omega (arith, ran_once, none))
     (λ t.
-    let refusal : is_arefusal runs refused ≡ true = or_second (is_arun runs refused locks) (is_arefusal runs refused) e t in
+    let refusal : is_a_refusal runs refused ≡ true = or_second (is_a_run runs refused locks) (is_a_refusal runs refused) e t in
     let none : runs ≡ 0 = eqb-true runs 0 (and_left (eqb runs 0) (eqb refused 1) refusal) in
     let once : refused ≡ 1 = eqb-true refused 1 (and_right (eqb runs 0) (eqb refused 1) refusal) in
     omega (arith, none, once))
@@ -216,16 +216,16 @@ record Fits (locks : ℕ) : Type 0 where
   some : 1 ≤ locks
   most : locks ≤ 64
 
-fits : (runs refused locks : ℕ) → runs ≡ 1 → (is_arun runs refused locks || is_arefusal runs refused) ≡ true → Fits locks
-unfolding is_arun is_arefusal
+fits : (runs refused locks : ℕ) → runs ≡ 1 → (is_a_run runs refused locks || is_a_refusal runs refused) ≡ true → Fits locks
+unfolding is_a_run is_a_refusal
 fits runs refused locks one e =
-    by_value (λ (b : Bool). Fits locks) (is_arun runs refused locks)
+    by_value (λ (b : Bool). Fits locks) (is_a_run runs refused locks)
     (λ t.
     let others : Bool = leb 1 locks && leb locks 64 in
     let both : others ≡ true = and_right (eqb refused 0) others (and_right (eqb runs 1) (eqb refused 0 && others) t) in
     record { some = leb-true 1 locks (and_left (leb 1 locks) (leb locks 64) both); most = leb-true locks 64 (and_right (leb 1 locks) (leb locks 64) both) })
     (λ t.
-    let refusal : is_arefusal runs refused ≡ true = or_second (is_arun runs refused locks) (is_arefusal runs refused) e t in
+    let refusal : is_a_refusal runs refused ≡ true = or_second (is_a_run runs refused locks) (is_a_refusal runs refused) e t in
     let none : runs ≡ 0 = eqb-true runs 0 (and_left (eqb runs 0) (eqb refused 1) refusal) in
     absurd (omega (arith, one, none)))
 
@@ -236,7 +236,7 @@ locks_fit (ran run) right e =
     let locks : ℕ = (noted_lines 72 (lines_in (ran run)) no_notes).count in
     let many : locks ≡ min (length run.locks) (2 ^ 64 - 1) = locks_counted right in
     let fit = fits g.runs g.refused locks (run-counted right)
-    (and_right (is_fine (fault_of g)) (is_arun g.runs g.refused locks || is_arefusal g.runs g.refused) e) in
+    (and_right (is_fine (fault_of g)) (is_a_run g.runs g.refused locks || is_a_refusal g.runs g.refused) e) in
     of_a_run {run = run} (omega (arith, many, fit.some)) (omega (arith, many, fit.most))
 locks_fit (left_out l) right e = of_a_refusal
 
@@ -247,7 +247,7 @@ all_else_is_incomplete text other =
     let g : Gather = after_all start_gather text in
     let stands : w.gather ≡ g = same_gather text start_watch in
     let test : is_whole w ≡ true = was_whole w other in
-    let counts : Bool = is_arun w.gather.runs w.gather.refused w.locks.count || is_arefusal w.gather.runs w.gather.refused in
+    let counts : Bool = is_a_run w.gather.runs w.gather.refused w.locks.count || is_a_refusal w.gather.runs w.gather.refused in
     let fine : fault_of g ≡ Fine = ap fault_of (sym stands) ∙ only_fine (fault_of w.gather) (and_left (is_fine (fault_of w.gather)) counts test) in
     let found = nothing_else_is_fine text fine in
     let all : in_all (after_all start_gather (pieces_text found.pieces)) ≡ 1 =

@@ -182,8 +182,8 @@ noted_same l is letter notes =
     let r = scan_of l is in
     let one : ◌≡◌ {A = ℕ} (get_or (scan_all start_scan (line_text l)).numbers 0 0) (get_or l.numbers 0 0) = number_of l is 0 (lit< tt) in
     let two : ◌≡◌ {A = ℕ} (get_or (scan_all start_scan (line_text l)).numbers 1 0) (get_or l.numbers 1 0) = number_of l is 1 (lit< tt) in
-    λ i. cond (eqb (r.letter_read_lem i) letter)
-    (cond (eqb notes.count 0) (record { count = 1; steps = r.steps_read_lem i; first = one i; second = two i }) (one_more_note notes))
+    λ i. cond (eqb (r.letter_read i) letter)
+    (cond (eqb notes.count 0) (record { count = 1; steps = r.steps_read i; first = one i; second = two i }) (one_more_note notes))
     notes
 
 line_by_letter : (l : TextLine) (w : Watch) → AtLine w.gather → IsLine l.steps l.letter l.numbers

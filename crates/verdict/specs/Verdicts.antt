@@ -115,18 +115,18 @@ watch_all watch (byte ∷ rest) = watch_all (watch_byte watch byte) rest
 -- ---- the verdict
 
 -- one run and no refused one; a run has an H line for each of its 1 to 64 locks
-unfoldable pub is_arun : ℕ → ℕ → ℕ → Bool
-is_arun runs refused locks = eqb runs 1 && (eqb refused 0 && (leb 1 locks && leb locks 64))
+unfoldable pub is_a_run : ℕ → ℕ → ℕ → Bool
+is_a_run runs refused locks = eqb runs 1 && (eqb refused 0 && (leb 1 locks && leb locks 64))
 
 -- one refused run and no other
-unfoldable pub is_arefusal : ℕ → ℕ → Bool
-is_arefusal runs refused = eqb runs 0 && eqb refused 1
+unfoldable pub is_a_refusal : ℕ → ℕ → Bool
+is_a_refusal runs refused = eqb runs 0 && eqb refused 1
 
 -- the text is a whole run, or a refused one, and nothing else
 unfoldable pub is_whole : Watch → Bool
 is_whole watch =
     is_fine (fault_of watch.gather)
-    && (is_arun watch.gather.runs watch.gather.refused watch.locks.count || is_arefusal watch.gather.runs watch.gather.refused)
+    && (is_a_run watch.gather.runs watch.gather.refused watch.locks.count || is_a_refusal watch.gather.runs watch.gather.refused)
 
 -- this verdict where some line was noted, else the later one
 unfoldable pub by_notes : Verdict → Noted → Judged → Judged

@@ -1,6 +1,6 @@
 // The verdict, by what has been read of a schedule's text.
 ghost use Rattle.std.specs.Prelude.{◌≡◌};
-ghost use Rattle.verdict.specs.Verdicts.{verdict_number, is_bad, is_looked_at, is_arun, is_arefusal, is_whole, by_notes, without, worst, judged};
+ghost use Rattle.verdict.specs.Verdicts.{verdict_number, is_bad, is_looked_at, is_a_run, is_a_refusal, is_whole, by_notes, without, worst, judged};
 
 use crate::{Judged, Noted, Verdict, Watch, notes};
 
@@ -38,7 +38,7 @@ pub fn is_looked_at(number: u64) -> bool
 
 // Whether the text has one run and no refused one; a run has 1 to 64 H lines.
 fn is_a_run(runs: u64, refused: u64, locks: u64) -> bool
-    ensures { result ≡ is_arun runs refused locks }
+    ensures { result ≡ is_a_run runs refused locks }
 {
     if runs == 1 {
         if refused == 0 {
@@ -54,7 +54,7 @@ fn is_a_run(runs: u64, refused: u64, locks: u64) -> bool
 
 // Whether the text has one refused run and no other.
 fn is_a_refusal(runs: u64, refused: u64) -> bool
-    ensures { result ≡ is_arefusal runs refused }
+    ensures { result ≡ is_a_refusal runs refused }
 {
     if runs == 0 {
         return refused == 1;

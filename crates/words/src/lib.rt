@@ -1,5 +1,7 @@
 // A set of locks as one 64-bit word, lock 0 the lowest bit: test, set and clear one bit, and the least member.
 // Every function answers every input: a lock above 63 is in no word and changes none.
+#![tactic(auto)]
+
 ghost use Rattle.std.specs.Prelude.{◌≡◌};
 ghost use Rattle.words.specs.Words.{has, with_lock, without_lock, least, all_below};
 

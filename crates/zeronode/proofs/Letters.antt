@@ -1,5 +1,4 @@
 -- The case that the queue's head leads to is the first of (a), (b), (c) that applies. By whether the queue is empty, its head, and the arrival.
-use Prim.Native.Nat.{ℕ}
 use mathlib.Core.Path.{◌≡◌, refl, ap, ◌∙◌}
 use mathlib.Core.Bool.{Bool, true, false, cond, ◌&&◌, not}
 use lib.Dec.{eqb}
@@ -7,10 +6,9 @@ use lib.ListN.{get_or}
 use Rattle.cars.specs.declared.Car.{Car}
 use Rattle.cars.specs.declared.Car.TheVariants.{Idle, Token, Null, Reqp, Failp, Dov, Gotp, Didv}
 use Rattle.cars.specs.Kinds.{is_idle_car, is_token_car}
-use Rattle.zeronode.specs.declared.Slot.{Slot}
 use Rattle.zeronode.specs.declared.ZeroNode.{ZeroNode}
 use Rattle.zeronode.specs.declared.ZeroRule.{ZeroRule}
-use Rattle.zeronode.specs.declared.ZeroRule.TheVariants.{SendsIdle, SendsToken, SendsHead}
+use Rattle.zeronode.specs.declared.ZeroRule.TheVariants.{SendsIdle}
 use Rattle.zeronode.specs.Rules.{empty_slot, on_token, on_head, zero_rule}
 use Rattle.zeronode.specs.Letters.{zero_letter, queued, head_is_token, zero_letter_of}
 use Rattle.zeronode.specs.Theorems.{FirstThatApplies}

@@ -3,7 +3,6 @@
 use Rattle.std.specs.Prelude.{ℕ, Bool, cond, ◌&&◌, not, eqb, get_or}
 use Rattle.cars.specs.declared.Car.{Car}
 use Rattle.cars.specs.Kinds.{is_idle_car, is_token_car}
-use Rattle.zeronode.specs.declared.Slot.{Slot}
 use Rattle.zeronode.specs.declared.ZeroNode.{ZeroNode}
 use Rattle.zeronode.specs.declared.ZeroRule.{ZeroRule}
 use Rattle.zeronode.specs.declared.ZeroRule.TheVariants.{SendsIdle, SendsToken, SendsHead}

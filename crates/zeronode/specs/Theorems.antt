@@ -1,5 +1,5 @@
 -- What proofs/ proves over the definitions, as a sentence.
-use Rattle.std.specs.Prelude.{ℕ, ◌≡◌}
+use Rattle.std.specs.Prelude.{◌≡◌}
 use Rattle.cars.specs.declared.Car.{Car}
 use Rattle.zeronode.specs.declared.ZeroNode.{ZeroNode}
 use Rattle.zeronode.specs.Rules.{zero_rule}

@@ -1,6 +1,5 @@
 -- `answer` meets its contract. On each way to a return, the tests and calls on the way choose the case of the definition.
 use Rattle.acts.specs.Actions.{node_number, action_answer_number}
-use borrow.Author.Rules.{rules}
 use Rattle.acts.proofs.answer.Goals as goal
 
 pub returns-then-is_idle : goal.returns-then-is_idle

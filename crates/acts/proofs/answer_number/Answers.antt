@@ -1,6 +1,5 @@
 -- `answer_number` meets its contract. On each way to a return, the tests and calls on the way choose the case of the definition.
 use Rattle.acts.specs.Actions.{action_answer_number}
-use borrow.Author.Rules.{rules}
 use Rattle.acts.proofs.answer_number.Goals as goal
 
 pub returns-in-Accepted : goal.returns-in-Accepted

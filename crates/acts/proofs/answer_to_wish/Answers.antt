@@ -1,6 +1,5 @@
 -- `answer_to_wish` meets its contract. On each way to a return, the tests and calls on the way choose the case of the definition.
 use Rattle.acts.specs.Actions.{wish_number, action_answer_number}
-use borrow.Author.Rules.{rules}
 use Rattle.acts.proofs.answer_to_wish.Goals as goal
 
 pub returns-then-has : goal.returns-then-has

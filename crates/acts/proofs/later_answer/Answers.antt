@@ -1,6 +1,5 @@
 -- `later_answer` meets its contract. On each way to a return, the tests and calls on the way choose the case of the definition.
 use Rattle.acts.specs.Actions.{later_number}
-use borrow.Author.Rules.{rules}
 use Rattle.acts.proofs.later_answer.Goals as goal
 
 pub returns-in-Take : goal.returns-in-Take

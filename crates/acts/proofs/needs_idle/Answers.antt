@@ -1,6 +1,5 @@
 -- `needs_idle` meets its contract. On each way to a return, the tests and calls on the way choose the case of the definition.
 use Rattle.acts.specs.Actions.{needs_idle}
-use borrow.Author.Rules.{rules}
 use Rattle.acts.proofs.needs_idle.Goals as goal
 
 pub returns-in-Take : goal.returns-in-Take

@@ -1,6 +1,5 @@
 -- `released` meets its contract. On each way to a return, the tests and calls on the way choose the case of the definition.
 use Rattle.acts.specs.Actions.{released}
-use borrow.Author.Rules.{rules}
 use Rattle.acts.proofs.released.Goals as goal
 
 pub returns : goal.returns

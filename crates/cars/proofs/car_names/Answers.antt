@@ -1,5 +1,4 @@
 -- `cars::car_names` meets its contract: on each way to a return, the tests on the way give the parts of what `carried_by` promises.
-use borrow.Author.Rules.{rules}
 use Rattle.cars.proofs.car_names.Goals as goal
 
 pub returns-then-carried : goal.returns-then-carried

@@ -1,6 +1,5 @@
 -- `cars::flag_after` meets its contract. On each way to a return, the tests and calls on the way choose the case of the definition.
 use Rattle.cars.specs.Cars.{flag_after}
-use borrow.Author.Rules.{rules}
 use Rattle.cars.proofs.flag_after.Goals as goal
 
 pub returns-in-Idle : goal.returns-in-Idle

@@ -1,5 +1,4 @@
 -- `cars::has_such` meets its contract. On each way to a return, the test on the way chooses the case of the definition.
-use borrow.Author.Rules.{rules}
 use Rattle.cars.proofs.has_such.Goals as goal
 
 pub returns-then-notice : goal.returns-then-notice

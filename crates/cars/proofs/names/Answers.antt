@@ -1,6 +1,5 @@
 -- `cars::names` meets its contract. On each way to a return, the tests and calls on the way choose the case of the definition.
 use Rattle.cars.specs.Cars.{names}
-use borrow.Author.Rules.{rules}
 use Rattle.cars.proofs.names.Goals as goal
 
 pub returns-then-is_node : goal.returns-then-is_node

@@ -3,7 +3,6 @@ use Rattle.course.specs.Standing.{beginning}
 use Rattle.ring.specs.Walk.{quiet}
 use Rattle.nightfile.proofs.Laws.{told_number, told_place}
 use Rattle.course.proofs.Told.{started_state}
-use borrow.Author.Rules.{rules}
 use Rattle.course.proofs.begin.Goals as goal
 
 pub returns : goal.returns

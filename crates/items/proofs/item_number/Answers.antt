@@ -1,5 +1,4 @@
 -- `item_number` gives `item_answer_number`, case by case.
-use borrow.Author.Rules.{rules}
 use Rattle.items.specs.Items.{item_answer_number}
 use Rattle.items.proofs.item_number.Goals as goal
 

@@ -1,5 +1,4 @@
 -- `item_place` gives `item_answer_place`, case by case.
-use borrow.Author.Rules.{rules}
 use Rattle.items.specs.Items.{item_answer_place}
 use Rattle.items.proofs.item_place.Goals as goal
 

@@ -1,6 +1,5 @@
 -- `junction::shadow` meets its contract. On each way to a return, the tests and calls on the way choose the case of the definition.
 use Rattle.junction.specs.Turn.{shadow}
-use borrow.Author.Rules.{rules}
 use Rattle.junction.proofs.shadow.Goals as goal
 
 pub returns-in-Idle : goal.returns-in-Idle

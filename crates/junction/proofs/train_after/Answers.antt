@@ -1,6 +1,5 @@
 -- `junction::train_after` meets its contract. On each way to a return, the tests and calls on the way choose the case of the definition.
 use Rattle.junction.specs.Turn.{train_after}
-use borrow.Author.Rules.{rules}
 use Rattle.junction.proofs.train_after.Goals as goal
 
 pub returns-then-inner : goal.returns-then-inner

@@ -1,5 +1,4 @@
 -- `file_number` gives `file_answer_number`, case by case.
-use borrow.Author.Rules.{rules}
 use Rattle.nightfile.specs.File.{file_answer_number}
 use Rattle.nightfile.proofs.file_number.Goals as goal
 

@@ -1,5 +1,4 @@
 -- `file_place` gives `file_answer_place`, case by case.
-use borrow.Author.Rules.{rules}
 use Rattle.nightfile.specs.File.{file_answer_place}
 use Rattle.nightfile.proofs.file_place.Goals as goal
 

@@ -1,5 +1,4 @@
 -- `read_plan` gives `plan_of`, field by field.
-use borrow.Author.Rules.{rules}
 use Rattle.nightfile.specs.File.{plan_of}
 use Rattle.nightfile.proofs.read_plan.Goals as goal
 

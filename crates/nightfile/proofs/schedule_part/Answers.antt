@@ -2,7 +2,6 @@
 use mathlib.Core.Path.{sym, ◌∙◌}
 use native.Mathlib.Omega.{arith}
 use borrow.Author.Tests.{eq-eqb, ne_eqb}
-use borrow.Author.Rules.{rules}
 use Rattle.nightfile.specs.File.{schedule_part, if_accepted}
 use Rattle.nightfile.proofs.Laws.{told_number, schedule_cut, start_most, accepted, part_place, refused_place}
 use Rattle.nightfile.proofs.schedule_part.Goals as goal

@@ -2,7 +2,6 @@
 use mathlib.Core.Path.{sym, ◌∙◌}
 use native.Mathlib.Omega.{arith}
 use borrow.Author.Tests.{le-ltb, lt-ltb}
-use borrow.Author.Rules.{rules}
 use Rattle.lists.specs.Refusal.{refused_if}
 use Rattle.nightfile.specs.File.{file_told, file_number, length_wrong, number_and_place, file_answer_number, file_answer_place, file_answer_told}
 use Rattle.nightfile.proofs.Laws.{plan_cut, schedule_cut, start_most}

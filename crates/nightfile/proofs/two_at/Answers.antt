@@ -2,7 +2,6 @@
 use Prim.Native.Nat.{◌+◌, ◌≤◌}
 use native.Mathlib.Omega.{arith}
 use lib.ListN.{length, get_or-eq_default}
-use borrow.Author.Rules.{rules}
 use Rattle.nightfile.specs.File.{byte_at, two_at}
 use Rattle.nightfile.proofs.two_at.Goals as goal
 

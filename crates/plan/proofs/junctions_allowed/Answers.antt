@@ -1,4 +1,3 @@
-use borrow.Author.Rules.{rules}
 use Rattle.plan.proofs.junctions_allowed.Goals as goal
 
 -- src/lib.rt:28:9

@@ -3,7 +3,6 @@ use Rattle.positions.specs.Reading.{joined}
 use borrow.Author.Tests.{eq-eqb, le-leb, le-ltb, lt-leb, lt-ltb, ne_eqb}
 use Prim.Native.Nat.{ℕ, ◌+◌, ◌≤◌}
 use native.Mathlib.Omega.{arith}
-use borrow.Author.Rules.{rules}
 use Rattle.positions.proofs.joined.Goals as goal
 
 -- behind a place that is behind the end there is nothing either

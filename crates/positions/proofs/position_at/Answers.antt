@@ -1,7 +1,6 @@
 -- `position_at` gives `position_at`: a place before the end, with 0 or something else.
 use Rattle.positions.specs.Reading.{position_at}
 use borrow.Author.Tests.{eq-eqb, le-ltb, lt-ltb, ne_eqb}
-use borrow.Author.Rules.{rules}
 use Rattle.positions.proofs.position_at.Goals as goal
 
 pub returns-then-value-eq0 : goal.returns-then-value-eq0

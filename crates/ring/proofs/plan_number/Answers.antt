@@ -1,6 +1,5 @@
 -- `ring::plan_number` meets its contract. On each way to a return, the tests and calls on the way choose the case of the definition.
 use Rattle.ring.specs.State.{plan_answer_number}
-use borrow.Author.Rules.{rules}
 use Rattle.ring.proofs.plan_number.Goals as goal
 
 pub returns-in-InRange : goal.returns-in-InRange

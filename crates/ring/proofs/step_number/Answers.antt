@@ -1,6 +1,5 @@
 -- `ring::step_number` meets its contract. On each way to a return, the tests and calls on the way choose the case of the definition.
 use Rattle.ring.specs.Step.{step_answer_number}
-use borrow.Author.Rules.{rules}
 use Rattle.ring.proofs.step_number.Goals as goal
 
 pub returns-in-Done : goal.returns-in-Done

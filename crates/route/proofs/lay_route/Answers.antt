@@ -1,8 +1,6 @@
 -- By what the survey tells: nothing is laid of positions out of range or where there is no room, else all of the route.
-use mathlib.Core.Path.{refl}
 use lib.ListN.{length}
 use Rattle.route.proofs.Fitting.{laid_wrong, laid_short, laid_fits, fits_layable}
-use borrow.Author.Rules.{rules}
 use Rattle.route.proofs.lay_route.Goals as goal
 
 pub lay_all-requires : goal.lay_all-requires

@@ -1,7 +1,6 @@
 -- Each number by the tests that it passes.
 use Rattle.route.specs.Route.{leg_of}
 use borrow.Author.Tests.{le-ltb, lt-ltb}
-use borrow.Author.Rules.{rules}
 use Rattle.route.proofs.leg_of.Goals as goal
 
 pub returns-then-number-lt64 : goal.returns-then-number-lt64

@@ -1,10 +1,7 @@
 -- `fill` meets its contract. In its loop, what is written so far and what the run still says are together what it said from the start.
 use mathlib.Core.Path.{ap, ◌∙◌}
-use lib.ListN.{length}
-use borrow.Author.Rules.{rules}
-use Rattle.course.specs.Whole.{course}
 use Rattle.run.specs.Filling.{filling, filled_buffer}
-use Rattle.run.proofs.Fills.{full_over, full_line, fewer_lines, Filling, filling_none, room_enough, filling_line}
+use Rattle.run.proofs.Fills.{full_over, full_line, fewer_lines, filling_none, room_enough, filling_line}
 use Rattle.run.proofs.fill.Goals as goal
 
 pub loop-here-init : goal.loop-here-init

@@ -1,6 +1,5 @@
 -- `run_file` meets its contract. On each way to a return, the tests and calls on the way choose the case of the definition.
 use Rattle.run.specs.Outcomes.{file_outcome, file_course}
-use borrow.Author.Rules.{rules}
 use Rattle.run.proofs.run_file.Goals as goal
 
 pub returns : goal.returns

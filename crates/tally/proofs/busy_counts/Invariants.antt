@@ -1,12 +1,8 @@
 -- `tally::busy_counts` meets its contract. The invariant of its loop is the definition up to the place reached.
-use Prim.Native.Nat.{ℕ, ◌≤◌, ◌-◌}
-use mathlib.Core.Path.{◌≡◌, ◌∙◌, sym, ap}
-use native.Mathlib.Omega.{arith}
-use borrow.Author.Rules.{rules}
+use Prim.Native.Nat.{◌≤◌, ◌-◌}
+use mathlib.Core.Path.{◌≡◌}
 use Rattle.lists.specs.Loops.{in_order}
-use Rattle.lists.proofs.Laws.{in_order_none}
-use Rattle.tally.specs.Tally.{counted}
-use Rattle.tally.proofs.Laws.{word_lock, word_more, word_busy}
+use Rattle.tally.proofs.Laws.{word_lock}
 use Rattle.tally.proofs.busy_counts.Given as goal
 
 abbrev pub invariant-loop-lock : goal.invariant-loop-lock

@@ -5,7 +5,6 @@ use lib.ListN.{length}
 use lib.Seq.{set_out}
 use Rattle.lists.specs.Loops.{iterate}
 use Rattle.tally.specs.Tally.{counted}
-use borrow.Author.Rules.{rules}
 use Rattle.tally.proofs.counted.Goals as goal
 
 pub returns-then-lock-lt64 : goal.returns-then-lock-lt64

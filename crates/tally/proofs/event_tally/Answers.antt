@@ -1,6 +1,5 @@
 -- `tally::event_tally` meets its contract. On each way to a return, the tests and calls on the way choose the case of the definition.
 use Rattle.tally.specs.Tally.{event_tally}
-use borrow.Author.Rules.{rules}
 use Rattle.tally.proofs.event_tally.Goals as goal
 
 pub returns-in-Nothing : goal.returns-in-Nothing

@@ -1,12 +1,7 @@
 -- `tally::events_tally` meets its contract. The invariant of its loop is the definition up to the place reached.
-use Prim.Native.Nat.{ℕ, ◌≤◌, ◌-◌}
-use mathlib.Core.Path.{◌≡◌, ◌∙◌, sym, ap}
-use native.Mathlib.Omega.{arith}
-use borrow.Author.Rules.{rules}
-use Rattle.lists.proofs.Laws.{in_order_none, in_order-more}
-use Rattle.ring.specs.Walk.{quiet}
-use Rattle.tally.specs.Tally.{event_tally, place_tally, events_tally}
-use Rattle.tally.proofs.Laws.{not-counted}
+use Prim.Native.Nat.{◌≤◌, ◌-◌}
+use mathlib.Core.Path.{◌≡◌}
+use Rattle.tally.specs.Tally.{events_tally}
 use Rattle.tally.proofs.events_tally.Given as goal
 
 abbrev pub invariant-loop-i : goal.invariant-loop-i

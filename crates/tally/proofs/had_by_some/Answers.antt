@@ -1,10 +1,9 @@
 -- `tally::had_by_some` meets its contract. The invariant of its loop is the definition up to the place reached.
-use Prim.Native.Nat.{ℕ, ◌≤◌, ◌-◌}
+use Prim.Native.Nat.{ℕ}
 use mathlib.Core.Path.{◌≡◌, ◌∙◌, sym, ap}
 use native.Mathlib.Omega.{arith}
 use borrow.Author.Rules.{rules}
 use Rattle.lists.proofs.Laws.{some_none}
-use Rattle.words.specs.Words.{has}
 use Rattle.words.proofs.Sets.{has_none}
 use Rattle.tally.proofs.Laws.{busy-more}
 use Rattle.ring.specs.State.{rest_node}

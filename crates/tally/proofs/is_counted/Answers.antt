@@ -1,6 +1,5 @@
 -- `is_counted` meets its contract. On each way to a return, the tests and calls on the way choose the case of the definition.
 use Rattle.tally.specs.Tally.{is_counted}
-use borrow.Author.Rules.{rules}
 use Rattle.tally.proofs.is_counted.Goals as goal
 
 pub returns-in-Nothing : goal.returns-in-Nothing

@@ -1,7 +1,6 @@
 -- `tally::more` meets its contract: so many times one more is the capped sum.
 use mathlib.Core.Path.{◌∙◌, sym}
 use native.Mathlib.Omega.{arith}
-use borrow.Author.Rules.{rules}
 use Rattle.tally.proofs.Times.{more-times}
 use Rattle.tally.proofs.more.Goals as goal
 

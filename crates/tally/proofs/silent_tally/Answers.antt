@@ -1,5 +1,4 @@
 -- `tally::silent_tally` meets its contract: of steps without an event only the busy counts are left.
-use borrow.Author.Rules.{rules}
 use Rattle.tally.proofs.Laws.{silent_counts}
 use Rattle.tally.proofs.silent_tally.Goals as goal
 

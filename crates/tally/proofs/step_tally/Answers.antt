@@ -1,7 +1,6 @@
 -- `tally::step_tally` meets its contract. On each way to a return, the tests and calls on the way choose the case of the definition.
 use Rattle.lists.specs.Loops.{iterate}
 use Rattle.tally.specs.Tally.{step_tally}
-use borrow.Author.Rules.{rules}
 use Rattle.tally.proofs.step_tally.Goals as goal
 
 pub returns : goal.returns

@@ -1,12 +1,8 @@
 -- `tally::sum_of` meets its contract. The invariant of its loop is the definition up to the place reached.
-use Prim.Native.Nat.{ℕ, ◌≤◌, ◌-◌, min}
-use mathlib.Core.Path.{◌≡◌, ◌∙◌, sym, ap}
-use native.Mathlib.Omega.{arith}
-use borrow.Author.Rules.{rules}
+use Prim.Native.Nat.{◌≤◌, ◌-◌}
+use mathlib.Core.Path.{◌≡◌}
 use Rattle.lists.specs.Loops.{in_order}
-use Rattle.lists.proofs.Laws.{in_order_none}
-use Rattle.tally.proofs.Laws.{sum_more}
-use Rattle.tally.specs.Tally.{add_up, sum_of}
+use Rattle.tally.specs.Tally.{add_up}
 use Rattle.tally.proofs.sum_of.Given as goal
 
 abbrev pub invariant-loop-i : goal.invariant-loop-i

@@ -2,7 +2,6 @@
 -- and `said_in_tour` has its sentence.
 use Rattle.tours.specs.Rules.{in_tour}
 use Rattle.tours.proofs.Sentences.{said_in_tour}
-use borrow.Author.Rules.{rules}
 use Rattle.tours.proofs.in_tour.Goals as goal
 
 pub returns-in-Idle : goal.returns-in-Idle

@@ -1,6 +1,5 @@
 -- `tours::on_didv` meets its contract. On each way to a return, the tests and calls on the way choose the case of the definition.
 use Rattle.tours.specs.Rules.{on_didv}
-use borrow.Author.Rules.{rules}
 use Rattle.tours.proofs.on_didv.Goals as goal
 
 pub returns-then-within : goal.returns-then-within

@@ -1,6 +1,5 @@
 -- `tours::on_gotp` meets its contract. On each way to a return, the tests and calls on the way choose the case of the definition.
 use Rattle.tours.specs.Rules.{on_gotp}
-use borrow.Author.Rules.{rules}
 use Rattle.tours.proofs.on_gotp.Goals as goal
 
 pub returns-then-within : goal.returns-then-within

@@ -2,7 +2,6 @@
 -- and `said_outside` has its sentence.
 use Rattle.tours.specs.Rules.{outside}
 use Rattle.tours.proofs.Sentences.{said_outside}
-use borrow.Author.Rules.{rules}
 use Rattle.tours.proofs.outside.Goals as goal
 
 pub returns-then-wants : goal.returns-then-wants

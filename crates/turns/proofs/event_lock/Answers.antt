@@ -1,6 +1,5 @@
 -- `turns::event_lock` meets its contract. On each way to a return, the tests and calls on the way choose the case of the definition.
 use Rattle.turns.specs.Turn.{event_lock}
-use borrow.Author.Rules.{rules}
 use Rattle.turns.proofs.event_lock.Goals as goal
 
 pub returns-in-Nothing : goal.returns-in-Nothing

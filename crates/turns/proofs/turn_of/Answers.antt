@@ -1,6 +1,5 @@
 -- `turns::turn_of` meets its contract. On each way to a return, the tests and calls on the way choose the case of the definition.
 use Rattle.turns.specs.Turn.{turn}
-use borrow.Author.Rules.{rules}
 use Rattle.turns.proofs.turn_of.Goals as goal
 
 pub returns : goal.returns

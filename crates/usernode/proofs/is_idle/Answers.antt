@@ -1,6 +1,5 @@
 -- `usernode::is_idle` meets its contract. On each way to a return, the tests and calls on the way choose the case of the definition.
 use Rattle.usernode.specs.Node.{is_idle}
-use borrow.Author.Rules.{rules}
 use Rattle.usernode.proofs.is_idle.Goals as goal
 
 pub returns-in-Idle : goal.returns-in-Idle

@@ -1,6 +1,5 @@
 -- `usernode::deeds::let_go` meets its contract. On each way to a return, the tests and calls on the way choose the case of the definition.
 use Rattle.usernode.specs.Node.{let_go}
-use borrow.Author.Rules.{rules}
 use Rattle.usernode.proofs.let_go.Goals as goal
 
 pub returns-then-multiring : goal.returns-then-multiring

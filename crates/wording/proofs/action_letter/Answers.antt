@@ -1,6 +1,5 @@
 -- One letter for each action.
 use Rattle.wording.specs.Wording.{action_letter}
-use borrow.Author.Rules.{rules}
 use Rattle.wording.proofs.action_letter.Goals as goal
 
 pub returns-in-Take : goal.returns-in-Take

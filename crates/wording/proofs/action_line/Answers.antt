@@ -1,6 +1,5 @@
 -- The line of an accepted action.
 use Rattle.wording.specs.Wording.{action_says}
-use borrow.Author.Rules.{rules}
 use Rattle.wording.proofs.action_line.Goals as goal
 
 pub returns : goal.returns

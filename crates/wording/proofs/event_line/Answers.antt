@@ -1,6 +1,5 @@
 -- The line of an event.
 use Rattle.wording.specs.Wording.{event_says}
-use borrow.Author.Rules.{rules}
 use Rattle.wording.proofs.event_line.Goals as goal
 
 pub returns : goal.returns

@@ -1,6 +1,5 @@
 -- The last line.
 use Rattle.wording.specs.Wording.{last_says}
-use borrow.Author.Rules.{rules}
 use Rattle.wording.proofs.last_line.Goals as goal
 
 pub returns : goal.returns

@@ -1,6 +1,5 @@
 -- The line of a refused file.
 use Rattle.wording.specs.Wording.{refusal_says}
-use borrow.Author.Rules.{rules}
 use Rattle.wording.proofs.refusal_line.Goals as goal
 
 pub returns : goal.returns

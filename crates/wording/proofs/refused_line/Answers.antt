@@ -1,6 +1,5 @@
 -- The line of a refused action.
 use Rattle.wording.specs.Wording.{refused_says}
-use borrow.Author.Rules.{rules}
 use Rattle.wording.proofs.refused_line.Goals as goal
 
 pub returns : goal.returns

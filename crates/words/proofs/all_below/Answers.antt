@@ -5,7 +5,6 @@ use native.Mathlib.Nat.{lt_of_lt_of_le}
 use lib.Pow.{pow_mono}
 use Rattle.words.proofs.Bits.{one_shifted}
 use Rattle.words.specs.Words.{all_below}
-use borrow.Author.Rules.{rules}
 use Rattle.words.proofs.all_below.Goals as goal
 
 pub returns-then-locks-lt64 : goal.returns-then-locks-lt64

@@ -2,7 +2,6 @@
 use Rattle.words.proofs.Bits.{one_shifted}
 use Rattle.words.specs.Words.{with_lock}
 use borrow.Author.Tests.{lt-ltb, le-ltb}
-use borrow.Author.Rules.{rules}
 use Rattle.words.proofs.with_lock.Goals as goal
 
 pub returns-then-lock-lt64 : goal.returns-then-lock-lt64

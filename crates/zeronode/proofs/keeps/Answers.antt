@@ -1,5 +1,4 @@
 -- `zeronode::keeps` meets its contract: one clause of the definition for each arm.
-use borrow.Author.Rules.{rules}
 use Rattle.zeronode.specs.Rules.{keeps}
 use Rattle.zeronode.proofs.keeps.Goals as goal
 

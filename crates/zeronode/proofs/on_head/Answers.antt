@@ -1,5 +1,4 @@
 -- `zeronode::on_head` meets its contract: one clause of the definition for each arm.
-use borrow.Author.Rules.{rules}
 use Rattle.zeronode.specs.Rules.{on_head}
 use Rattle.zeronode.proofs.on_head.Goals as goal
 

@@ -1,5 +1,4 @@
 -- `zeronode::on_token` meets its contract: one clause of the definition for each arm.
-use borrow.Author.Rules.{rules}
 use Rattle.zeronode.specs.Rules.{on_token}
 use Rattle.zeronode.proofs.on_token.Goals as goal
 

@@ -1,11 +1,11 @@
 -- `zeronode::shifted` meets its contract. The loop's invariant: i is at most the last place, and the first i places have moved up.
-use Prim.Native.Nat.{◌≤◌, ◌-◌}
+use Prim.Native.Nat.{◌-◌}
 use mathlib.Core.Path.{◌≡◌}
 use native.Mathlib.Omega.{arith}
 use lib.ListN.{length}
 use borrow.Author.Rules.{rules}
 use Rattle.zeronode.specs.Rules.{empty_slot}
-use Rattle.zeronode.proofs.Queue.{moved_up, moved_none, moved_more, moved_done}
+use Rattle.zeronode.proofs.Queue.{moved_none, moved_more, moved_done}
 use Rattle.zeronode.proofs.shifted.Goals as goal
 
 pub loop-i-init : goal.loop-i-init

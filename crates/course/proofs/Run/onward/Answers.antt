@@ -1,7 +1,6 @@
 -- `Run::onward` meets its contract. A run that is over or at its end is ready where it stands.
 use mathlib.Core.Path.{refl}
 use Rattle.course.specs.Ready.{ready_in, ready}
-use borrow.Author.Rules.{rules}
 use Rattle.course.proofs.Run.onward.Goals as goal
 
 pub returns-then-self : goal.returns-then-self

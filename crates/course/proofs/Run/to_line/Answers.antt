@@ -6,7 +6,7 @@ use Rattle.course.specs.declared.ahead.Ahead.{Ahead}
 use Rattle.course.specs.Standing.{past}
 use Rattle.course.specs.Wording.{event_here}
 use Rattle.course.specs.Ready.{ahead_of}
-use Rattle.course.proofs.Way.{Way, to_go, sets_out, way_past, way_several, past_nearer, several_nearer, at_event, at_action, at_ceiling, at-items_end}
+use Rattle.course.proofs.Way.{sets_out, way_past, way_several, past_nearer, several_nearer, at_event, at_action, at_ceiling, at-items_end}
 use Rattle.course.proofs.Several.{at_once}
 use Rattle.course.proofs.LookAhead.{none_found, steps_to, way_ahead, ahead_nearer}
 use Rattle.course.proofs.Run.to_line.Goals as goal

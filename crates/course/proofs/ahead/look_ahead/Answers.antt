@@ -1,5 +1,4 @@
 -- `ahead::look_ahead` meets its contract. On each way to a return, the tests and calls on the way choose the case of the definition.
-use borrow.Author.Rules.{rules}
 use Rattle.course.specs.Ready.{is_act, is_action, steps_of, is_steps, steps_found, ahead_of}
 use Rattle.course.proofs.ahead.look_ahead.Goals as goal
 

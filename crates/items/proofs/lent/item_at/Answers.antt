@@ -1,6 +1,5 @@
 -- `item_at` gives `item_of`: steps where the first byte is 0, else an action with its node and lock.
 use borrow.Author.Tests.{eq-eqb, ne_eqb}
-use borrow.Author.Rules.{rules}
 use Rattle.nightfile.specs.File.{byte_at}
 use Rattle.items.specs.Items.{item_of}
 use Rattle.items.proofs.lent.item_at.Goals as goal

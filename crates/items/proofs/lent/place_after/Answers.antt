@@ -1,6 +1,5 @@
 -- `place_after` gives the place of `read_at`.
 use mathlib.Core.Path.{ap}
-use borrow.Author.Rules.{rules}
 use Rattle.items.specs.declared.Reading.{Reading}
 use Rattle.items.proofs.lent.place_after.Goals as goal
 

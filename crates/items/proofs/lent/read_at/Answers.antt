@@ -1,6 +1,5 @@
 -- `read_at` gives `read_at`: no more, bytes left over, a bad item or an item, by the tests on the way.
 use borrow.Author.Tests.{le-leb, le-ltb, lt-leb, lt-ltb}
-use borrow.Author.Rules.{rules}
 use Rattle.nightfile.specs.File.{byte_at}
 use Rattle.items.specs.Items.{read_at}
 use Rattle.items.proofs.lent.read_at.Goals as goal

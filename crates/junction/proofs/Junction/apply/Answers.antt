@@ -1,6 +1,5 @@
 -- `junction::Junction::apply` meets its contract. On each way to a return, the tests and calls on the way choose the case of the definition.
 use Rattle.junction.specs.Turn.{junction_apply}
-use borrow.Author.Rules.{rules}
 use Rattle.junction.proofs.Junction.apply.Goals as goal
 
 pub returns-in-GoesOn : goal.returns-in-GoesOn

@@ -1,6 +1,5 @@
 -- `junction::Junction::failing` meets its contract. On each way to a return, the tests and calls on the way choose the case of the definition.
 use Rattle.junction.specs.Turn.{failing}
-use borrow.Author.Rules.{rules}
 use Rattle.junction.proofs.Junction.failing.Goals as goal
 
 pub returns-then-off_train : goal.returns-then-off_train

@@ -1,6 +1,5 @@
 -- `junction::Junction::rule` meets its contract. On each way to a return, the tests and calls on the way choose the case of the definition.
 use Rattle.junction.specs.Turn.{junction_rule, junction_sentence}
-use borrow.Author.Rules.{rules}
 use Rattle.junction.proofs.Junction.rule.Goals as goal
 
 pub returns-then-self : goal.returns-then-self

@@ -1,6 +1,5 @@
 -- `junction::Junction::sound` meets its contract. On each way to a return, the tests and calls on the way choose the case of the definition.
 use Rattle.junction.specs.Sound.{junction_sound}
-use borrow.Author.Rules.{rules}
 use Rattle.junction.proofs.Junction.sound.Goals as goal
 
 pub returns-then-car_names-2 : goal.returns-then-car_names-2

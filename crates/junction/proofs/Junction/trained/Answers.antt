@@ -1,6 +1,5 @@
 -- `junction::Junction::trained` meets its contract. On each way to a return, the tests and calls on the way choose the case of the definition.
 use Rattle.junction.specs.Turn.{trained}
-use borrow.Author.Rules.{rules}
 use Rattle.junction.proofs.Junction.trained.Goals as goal
 
 pub returns : goal.returns

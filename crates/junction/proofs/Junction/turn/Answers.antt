@@ -1,6 +1,5 @@
 -- `junction::Junction::turn` meets its contract. On each way to a return, the tests and calls on the way choose the case of the definition.
 use Rattle.junction.specs.Turn.{junction_turn}
-use borrow.Author.Rules.{rules}
 use Rattle.junction.proofs.Junction.turn.Goals as goal
 
 pub returns : goal.returns

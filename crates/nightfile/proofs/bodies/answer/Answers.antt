@@ -1,5 +1,4 @@
 -- `bodies::answer` gives the number of `bodies_number` and the place beside it: the plan's length, then its values, then the schedule.
-use borrow.Author.Rules.{rules}
 use Rattle.lists.specs.Refusal.{refused_if}
 use Rattle.nightfile.specs.File.{bodies_number, number_and_place, file_answer_number, file_answer_place, file_answer_told}
 use Rattle.nightfile.proofs.bodies.answer.Goals as goal

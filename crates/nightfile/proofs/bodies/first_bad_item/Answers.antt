@@ -1,10 +1,9 @@
 -- `first_bad_item` gives `first_bad_item`: in the loop every item passed before the one found is of a right kind.
-use Prim.Native.Nat.{◌-◌, ◌*◌, ◌≤◌}
-use mathlib.Core.Path.{◌≡◌, sym, ◌∙◌}
+use mathlib.Core.Path.{sym, ◌∙◌}
 use borrow.Author.Tests.{le-leb, lt-leb}
 use borrow.Author.Rules.{rules}
-use Rattle.lists.proofs.First.{Looked, looked_none, looked_right, looked_wrong, looked_done}
-use Rattle.nightfile.specs.File.{item_kind_right, first_bad_item}
+use Rattle.lists.proofs.First.{looked_none, looked_right, looked_wrong, looked_done}
+use Rattle.nightfile.specs.File.{first_bad_item}
 use Rattle.nightfile.proofs.FirstBad.{kind_at}
 use Rattle.nightfile.proofs.bodies.first_bad_item.Goals as goal
 

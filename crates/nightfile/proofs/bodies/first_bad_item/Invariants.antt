@@ -1,11 +1,8 @@
 -- `first_bad_item` gives `first_bad_item`: in the loop every item passed before the one found is of a right kind.
 use Prim.Native.Nat.{◌-◌, ◌*◌, ◌≤◌}
-use mathlib.Core.Path.{◌≡◌, sym, ◌∙◌}
-use borrow.Author.Tests.{le-leb, lt-leb}
-use borrow.Author.Rules.{rules}
-use Rattle.lists.proofs.First.{Looked, looked_none, looked_right, looked_wrong, looked_done}
-use Rattle.nightfile.specs.File.{item_kind_right, first_bad_item}
-use Rattle.nightfile.proofs.FirstBad.{kind_at}
+use mathlib.Core.Path.{◌≡◌}
+use Rattle.lists.proofs.First.{Looked}
+use Rattle.nightfile.specs.File.{item_kind_right}
 use Rattle.nightfile.proofs.bodies.first_bad_item.Given as goal
 
 abbrev pub invariant-loop-i : goal.invariant-loop-i

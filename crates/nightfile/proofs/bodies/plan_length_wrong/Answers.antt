@@ -5,9 +5,6 @@ use Rattle.nightfile.proofs.bodies.plan_length_wrong.Goals as goal
 use borrow.Author.Tests.{lt-ltb}
 use Rattle.nightfile.specs.File.{plan_length_wrong, byte_at}
 use Rattle.nightfile.proofs.Laws.{ends_or_wrong}
-use borrow.Author.Rules.{rules}
-use Rattle.nightfile.proofs.bodies.plan_length_wrong.Statement.{statement}
-use Rattle.nightfile.proofs.bodies.plan_length_wrong.Tie as tie
 
 -- src/bodies.rt:12:9
 pub returns-then-body-lt3 : goal.returns-then-body-lt3

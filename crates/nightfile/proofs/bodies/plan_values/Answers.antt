@@ -1,6 +1,5 @@
 -- `plan_values` gives a plan body's values: in the loop the first i of them are read, and the others are 0.
-use Prim.Native.Nat.{◌≤◌, ◌-◌}
-use mathlib.Core.Path.{◌≡◌, ◌∙◌, ap}
+use mathlib.Core.Path.{◌∙◌, ap}
 use native.Mathlib.Omega.{arith}
 use lib.Seq.{get_or-drop}
 use lib.ListN.{drop}

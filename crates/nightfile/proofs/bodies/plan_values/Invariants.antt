@@ -1,12 +1,8 @@
 -- `plan_values` gives a plan body's values: in the loop the first i of them are read, and the others are 0.
 use Prim.Native.Nat.{◌≤◌, ◌-◌}
-use mathlib.Core.Path.{◌≡◌, ◌∙◌, ap}
-use native.Mathlib.Omega.{arith}
-use lib.Seq.{get_or-drop}
+use mathlib.Core.Path.{◌≡◌}
 use lib.ListN.{drop}
-use borrow.Author.Rules.{rules}
-use Rattle.nightfile.specs.File.{byte_at, plan_values}
-use Rattle.nightfile.proofs.Laws.{values_read, values_none, values_more, values_done}
+use Rattle.nightfile.proofs.Laws.{values_read}
 use Rattle.nightfile.proofs.bodies.plan_values.Given as goal
 
 abbrev pub invariant-loop-i : goal.invariant-loop-i

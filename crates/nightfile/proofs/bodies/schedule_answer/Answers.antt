@@ -1,6 +1,5 @@
 -- `schedule_answer` gives the number of `schedule_number` and the place beside it: bytes left over first, then the first bad item.
 use borrow.Author.Tests.{eq-eqb, ne_eqb, lt-ltb, le-ltb}
-use borrow.Author.Rules.{rules}
 use Rattle.lists.specs.Refusal.{refused_if}
 use Rattle.nightfile.specs.File.{schedule_number, bytes_left_over, number_and_place, file_answer_number, file_answer_place, file_answer_told}
 use Rattle.nightfile.proofs.FirstBad.{right_by_first}

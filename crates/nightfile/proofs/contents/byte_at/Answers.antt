@@ -1,7 +1,6 @@
 -- `byte_at` gives `byte_at`: a byte past the end is 0.
 use mathlib.Core.Path.{refl, sym}
 use lib.ListN.{get_or-eq_default}
-use borrow.Author.Rules.{rules}
 use Rattle.nightfile.specs.File.{byte_at}
 use Rattle.nightfile.proofs.contents.byte_at.Goals as goal
 

@@ -1,6 +1,5 @@
 -- `contents_right` gives `contents_right`: each way out is read off the tests on the way.
 use borrow.Author.Tests.{eq-eqb, ne_eqb}
-use borrow.Author.Rules.{rules}
 use Rattle.nightfile.specs.File.{contents_right}
 use Rattle.nightfile.proofs.contents.contents_right.Goals as goal
 

@@ -1,6 +1,5 @@
 -- `entry_at` gives `entry_at`: the kind is tested first, then the offset.
 use borrow.Author.Tests.{eq-eqb, ne_eqb}
-use borrow.Author.Rules.{rules}
 use Rattle.nightfile.specs.File.{entry_at}
 use Rattle.nightfile.proofs.contents.entry_at.Goals as goal
 

@@ -1,5 +1,4 @@
 -- `entry_length` gives `entry_length`: the two bytes after kind and offset.
-use borrow.Author.Rules.{rules}
 use Rattle.nightfile.specs.File.{entry_length}
 use Rattle.nightfile.proofs.contents.entry_length.Goals as goal
 

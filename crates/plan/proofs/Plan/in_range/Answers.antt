@@ -1,7 +1,6 @@
 use mathlib.Core.Path.{ap}
 use Rattle.positions.specs.declared.Survey.{Survey}
 use Rattle.plan.specs.Plan.{plan_survey}
-use borrow.Author.Rules.{rules}
 use Rattle.plan.proofs.Plan.in_range.Goals as goal
 
 -- src/lib.rt:99:5

@@ -3,7 +3,6 @@ use Rattle.positions.specs.declared.Survey.{Survey}
 use Rattle.plan.specs.Plan.{plan_survey}
 use native.Mathlib.Omega.{arith}
 use Rattle.plan.proofs.Laws.{nodes_most}
-use borrow.Author.Rules.{rules}
 use Rattle.plan.proofs.Plan.nodes.Goals as goal
 
 -- src/lib.rt:111:9

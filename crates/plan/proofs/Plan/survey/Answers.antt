@@ -1,6 +1,5 @@
 use mathlib.Core.Path.{sym, ◌∙◌}
 use Rattle.plan.proofs.Laws.{survey_of_heads, survey_of_none}
-use borrow.Author.Rules.{rules}
 use Rattle.plan.proofs.Plan.survey.Goals as goal
 
 -- src/lib.rt:93:13

@@ -6,7 +6,7 @@ use native.Mathlib.Omega.{arith}
 use lib.ListN.{get_or}
 use borrow.Author.Rules.{rules}
 use borrow.Author.Tests.{leb-true}
-use Rattle.positions.proofs.Ending.{Ending, ending_count, ending_position, ended_short, ended_early, ended_opening, ended_all}
+use Rattle.positions.proofs.Ending.{ending_count, ending_position, ended_short, ended_early, ended_opening, ended_all}
 use Rattle.positions.proofs.shape.ends_exactly.Goals as goal
 
 pub loop-room-init : goal.loop-room-init

@@ -1,12 +1,5 @@
 -- `ends_exactly` gives `ends_at`: in the loop, what is still to come ends with the bytes from the place on as all of them with all bytes.
-use Prim.Native.Nat.{◌+◌}
-use mathlib.Core.Path.{refl, sym, ◌∙◌}
-use native.Mathlib.Nat.{zero-add}
-use native.Mathlib.Omega.{arith}
-use lib.ListN.{get_or}
-use borrow.Author.Rules.{rules}
-use borrow.Author.Tests.{leb-true}
-use Rattle.positions.proofs.Ending.{Ending, ending_count, ending_position, ended_short, ended_early, ended_opening, ended_all}
+use Rattle.positions.proofs.Ending.{Ending}
 use Rattle.positions.proofs.shape.ends_exactly.Given as goal
 
 abbrev pub invariant-loop-room : goal.invariant-loop-room

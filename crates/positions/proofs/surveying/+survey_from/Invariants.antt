@@ -1,10 +1,5 @@
 -- The proof of the cycle of calls {survey_from}. The measure is the levels that are left.
-use Prim.Native.Nat.{ℕ, ◌<◌}
-use mathlib.Core.Path.{refl, sym, ◌∙◌}
-use native.Mathlib.Omega.{arith}
-use borrow.Author.Rules.{rules}
-use Rattle.positions.proofs.Extents.{users_there, list_there}
-use Rattle.positions.proofs.Counting.{Counting, counting_node, counting_users, counting_list, counted_list-wrong, counted-wrong, counted_all, list_deeper}
+use Rattle.positions.proofs.Counting.{Counting}
 use Rattle.positions.proofs.surveying.+survey_from.Given as goal
 
 abbrev pub invariant-loop-left : goal.invariant-loop-left

@@ -3,7 +3,6 @@ use mathlib.Core.Path.{ap, ◌∙◌}
 use Rattle.positions.specs.Reading.{main_ring}
 use Rattle.positions.specs.Extent.{surveyed}
 use Rattle.positions.proofs.Extents.{survey_is}
-use borrow.Author.Rules.{rules}
 use Rattle.positions.proofs.surveying.survey_of.Goals as goal
 
 pub returns : goal.returns

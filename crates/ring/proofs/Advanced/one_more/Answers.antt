@@ -3,7 +3,6 @@ use mathlib.Core.Path.{◌∙◌}
 use Rattle.ring.proofs.Laws.{sound_plan}
 use Rattle.ring.proofs.Routed.{moved_along}
 use Rattle.ring.proofs.Advancing.{stepped_on}
-use borrow.Author.Rules.{rules}
 use Rattle.ring.proofs.Advanced.one_more.Goals as goal
 
 -- src/advance.rt:39:5

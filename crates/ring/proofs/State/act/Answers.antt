@@ -1,7 +1,6 @@
 -- An action: 13 first, then the answer without 13.
 use Rattle.acts.specs.Actions.{action_answer_number}
 use Rattle.ring.specs.Actions.{acting, action_told}
-use borrow.Author.Rules.{rules}
 use Rattle.ring.proofs.State.act.Goals as goal
 
 pub returns-then-sound : goal.returns-then-sound

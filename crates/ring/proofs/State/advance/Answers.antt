@@ -1,6 +1,5 @@
 -- Several steps: 13 first; a state that it refuses stays as it is.
 use mathlib.Core.Path.{sym, ◌∙◌}
-use borrow.Author.Rules.{rules}
 use Rattle.ring.proofs.Advancing.{all_refused}
 use Rattle.ring.proofs.State.advance.Goals as goal
 

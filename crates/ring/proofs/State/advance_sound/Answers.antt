@@ -8,7 +8,7 @@ use Rattle.ring.specs.declared.Advanced.{Advanced}
 use Rattle.ring.specs.Advance.{advancing}
 use Rattle.ring.proofs.Laws.{sound_plan}
 use Rattle.ring.proofs.Routed.{same_route, laid_there, laid_within, laid_long}
-use Rattle.ring.proofs.Advancing.{Going, going_start, going_on_lem, going_done}
+use Rattle.ring.proofs.Advancing.{going_start, going_on_lem, going_done}
 use Rattle.ring.proofs.State.advance_sound.Goals as goal
 
 -- src/advance.rt:82:9

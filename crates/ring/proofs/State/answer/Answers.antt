@@ -7,7 +7,6 @@ use Rattle.ring.specs.State.{node_of, rest_node}
 use Rattle.ring.specs.Actions.{action_number}
 use Rattle.lists.specs.Refusal.{refused_if}
 use borrow.Author.Tests.{le-ltb, lt-ltb}
-use borrow.Author.Rules.{rules}
 use Rattle.ring.proofs.State.answer.Goals as goal
 
 pub overflow_sub-place : goal.overflow_sub-place

@@ -3,7 +3,6 @@ use borrow.Author.Tests.{eqb-true}
 use mathlib.Core.Path.{sym, ◌∙◌}
 use Rattle.ring.proofs.Laws.{node_place, accepted_node}
 use Rattle.ring.specs.Actions.{action_told, handed_back}
-use borrow.Author.Rules.{rules}
 use Rattle.ring.proofs.State.handed_back.Goals as goal
 
 pub acted_state-next-requires : goal.acted_state-next-requires

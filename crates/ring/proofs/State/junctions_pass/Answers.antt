@@ -1,7 +1,5 @@
 -- The junctions that pass: in the loop every junction met has passed, and one that does not ends it.
-use Prim.Native.Nat.{◌≤◌, ◌-◌}
-use mathlib.Core.Bool.{true}
-use mathlib.Core.Path.{◌≡◌, sym, ap, ◌∙◌}
+use mathlib.Core.Path.{sym, ap, ◌∙◌}
 use borrow.Author.Rules.{rules}
 use Rattle.lists.proofs.Laws.{every_none, every_more, every-not}
 use Rattle.lists.specs.Loops.{every}

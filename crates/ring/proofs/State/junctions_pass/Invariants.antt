@@ -1,11 +1,8 @@
 -- The junctions that pass: in the loop every junction met has passed, and one that does not ends it.
 use Prim.Native.Nat.{◌≤◌, ◌-◌}
 use mathlib.Core.Bool.{true}
-use mathlib.Core.Path.{◌≡◌, sym, ap, ◌∙◌}
-use borrow.Author.Rules.{rules}
-use Rattle.lists.proofs.Laws.{every_none, every_more, every-not}
+use mathlib.Core.Path.{◌≡◌}
 use Rattle.lists.specs.Loops.{every}
-use Rattle.ring.specs.State.{rest_junction}
 use Rattle.ring.specs.Sound.{junction_passes}
 use Rattle.ring.proofs.State.junctions_pass.Given as goal
 

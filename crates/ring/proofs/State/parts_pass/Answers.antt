@@ -1,5 +1,4 @@
 use Rattle.ring.specs.Sound.{zero_passes}
-use borrow.Author.Rules.{rules}
 use Rattle.ring.proofs.State.parts_pass.Goals as goal
 
 -- src/soundness.rt:66:17

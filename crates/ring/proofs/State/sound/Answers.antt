@@ -5,7 +5,6 @@ use Rattle.positions.specs.declared.Survey.{Survey}
 use Rattle.plan.specs.Plan.{plan_survey}
 use Rattle.plan.proofs.Laws.{nodes_most, junctions_most}
 use Rattle.ring.proofs.Laws.{sound_right, sound-wrong}
-use borrow.Author.Rules.{rules}
 use Rattle.ring.proofs.State.sound.Goals as goal
 
 -- src/soundness.rt:80:36

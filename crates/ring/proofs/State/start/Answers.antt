@@ -1,7 +1,6 @@
 -- A start: the plan's range decides the answer and the state beside it.
 use Rattle.plan.specs.Plan.{plan_number}
 use Rattle.ring.specs.State.{starting, start_told, start_state, plan_answer_number}
-use borrow.Author.Rules.{rules}
 use Rattle.ring.proofs.State.start.Goals as goal
 
 pub returns-then-in_range : goal.returns-then-in_range

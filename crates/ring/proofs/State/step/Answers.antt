@@ -2,7 +2,6 @@
 use mathlib.Core.Path.{sym, ◌∙◌}
 use Rattle.ring.specs.Step.{stepping, step_answer_number}
 use Rattle.ring.proofs.Laws.{sound_plan}
-use borrow.Author.Rules.{rules}
 use Rattle.ring.proofs.State.step.Goals as goal
 
 -- src/steps.rt:46:13

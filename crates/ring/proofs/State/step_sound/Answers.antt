@@ -3,7 +3,6 @@ use mathlib.Core.Path.{◌∙◌}
 use Prim.Native.Nat.{ℕ}
 use lib.ListN.{replicate, length-replicate}
 use Rattle.ring.proofs.Routed.{moved_along, laid_there, laid_within, laid_long}
-use borrow.Author.Rules.{rules}
 use Rattle.ring.proofs.State.step_sound.Goals as goal
 
 -- src/steps.rt:38:21

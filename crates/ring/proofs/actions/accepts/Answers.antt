@@ -1,5 +1,4 @@
 -- `ring::actions::accepts` meets its contract. On each way to a return, the tests and calls on the way choose the case of the definition.
-use borrow.Author.Rules.{rules}
 use Rattle.ring.proofs.actions.accepts.Goals as goal
 
 pub returns : goal.returns

@@ -1,7 +1,5 @@
 -- Whether a step was silent: in the loop no node met has an event, and one that has ends it.
-use Prim.Native.Nat.{◌≤◌, ◌-◌}
-use mathlib.Core.Bool.{true}
-use mathlib.Core.Path.{◌≡◌, sym, ap, ◌∙◌}
+use mathlib.Core.Path.{sym, ap, ◌∙◌}
 use lib.ListN.{get_or}
 use borrow.Author.Rules.{rules}
 use Rattle.lists.specs.Loops.{every}

@@ -1,14 +1,11 @@
 -- Whether a step was silent: in the loop no node met has an event, and one that has ends it.
 use Prim.Native.Nat.{◌≤◌, ◌-◌}
 use mathlib.Core.Bool.{true}
-use mathlib.Core.Path.{◌≡◌, sym, ap, ◌∙◌}
+use mathlib.Core.Path.{◌≡◌}
 use lib.ListN.{get_or}
-use borrow.Author.Rules.{rules}
 use Rattle.lists.specs.Loops.{every}
-use Rattle.lists.proofs.Laws.{every_none, every_more, every-not}
 use Rattle.ring.specs.Walk.{quiet}
 use Rattle.ring.specs.Advance.{no_event}
-use Rattle.ring.proofs.Advancing.{silent_here, told_here}
 use Rattle.ring.proofs.advance.is_silent.Given as goal
 
 abbrev pub invariant-loop-i : goal.invariant-loop-i

@@ -1,6 +1,5 @@
 -- The start state: its arrays are copies of the resting node and junction.
 use Rattle.ring.specs.State.{start_of}
-use borrow.Author.Rules.{rules}
 use Rattle.ring.proofs.starting.start_of.Goals as goal
 
 pub returns : goal.returns

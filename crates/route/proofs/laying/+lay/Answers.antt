@@ -1,12 +1,11 @@
 -- The proof of the cycle of calls {lay}. The measure is the number of levels: a list within a list has one less. The invariant of the loop:
 -- what is still to be laid can be laid, and leads to the same.
-use Prim.Native.Nat.{ℕ, ◌+◌, ◌-◌, ◌<◌}
+use Prim.Native.Nat.{◌+◌, ◌-◌}
 use native.Mathlib.Omega.{arith}
 use lib.ListN.{length}
-use borrow.Author.Rules.{rules}
 use Rattle.positions.specs.Reading.{reading}
 use Rattle.route.proofs.Next.{next_wrong}
-use Rattle.route.proofs.Steps.{Step, goes_none, step_then, laid_room, NodeHere, UsersHere, ListedHere, node_here_lem, users_here, listed_here, node_step, users_step, listed_layable, listed_step, goes_done}
+use Rattle.route.proofs.Steps.{goes_none, step_then, laid_room, node_here_lem, users_here, listed_here, node_step, users_step, listed_layable, listed_step, goes_done}
 use Rattle.route.proofs.laying.+lay.Goals as goal
 
 pub loop-left-init : goal.loop-left-init

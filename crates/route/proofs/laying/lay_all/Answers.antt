@@ -1,5 +1,4 @@
 -- The main ring, from the start on.
-use borrow.Author.Rules.{rules}
 use Rattle.positions.specs.Reading.{main_ring}
 use Rattle.route.proofs.Steps.{laid_all}
 use Rattle.route.proofs.laying.lay_all.Goals as goal

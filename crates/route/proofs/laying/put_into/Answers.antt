@@ -1,5 +1,4 @@
 -- One store.
-use borrow.Author.Rules.{rules}
 use Rattle.route.specs.Route.{into_number}
 use Rattle.route.proofs.laying.put_into.Goals as goal
 

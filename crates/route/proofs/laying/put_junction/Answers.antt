@@ -5,7 +5,6 @@ use native.Mathlib.Omega.{arith}
 use Rattle.route.specs.Route.{into_number, out_number}
 use Rattle.route.specs.Laying.{nodes_from}
 use Rattle.route.proofs.Steps.{three, nodes_long}
-use borrow.Author.Rules.{rules}
 use Rattle.route.proofs.laying.put_junction.Goals as goal
 
 pub returns : goal.returns

@@ -1,5 +1,4 @@
 -- One store by each way out.
-use borrow.Author.Rules.{rules}
 use Rattle.route.specs.Route.{out_number}
 use Rattle.route.proofs.laying.put_out.Goals as goal
 

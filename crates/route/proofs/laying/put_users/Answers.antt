@@ -1,11 +1,7 @@
 -- The invariant of the loop: the numbers that are left, with those that are put, are all of them.
-use Prim.Native.Nat.{◌+◌}
-use mathlib.Core.Path.{◌≡◌, refl, ◌∙◌}
+use mathlib.Core.Path.{refl, ◌∙◌}
 use native.Mathlib.Omega.{arith}
-use lib.ListN.{length}
-use lib.Seq.{sets}
 use borrow.Author.Rules.{rules}
-use Rattle.route.specs.Laying.{nodes_from}
 use Rattle.route.proofs.Steps.{nodes_more, nodes_none}
 use Rattle.route.proofs.laying.put_users.Goals as goal
 

@@ -1,6 +1,5 @@
 -- `current::action_line` meets its contract. On each way to a return, the tests and calls on the way choose the case of the definition.
 use borrow.Author.Tests.{eq-eqb, ne_eqb}
-use borrow.Author.Rules.{rules}
 use Rattle.run.proofs.current.action_line.Goals as goal
 
 pub returns-then-number-eq0 : goal.returns-then-number-eq0

@@ -3,7 +3,6 @@ use Rattle.course.proofs.Told.{acted_state_lem, acted_number}
 use Rattle.run.specs.Current.{saying}
 use Rattle.course.specs.Wording.{action_line, action_refusal}
 use Rattle.course.specs.Standing.{action_item}
-use borrow.Author.Rules.{rules}
 use Rattle.run.proofs.current.action_saying.Goals as goal
 
 pub returns : goal.returns

@@ -5,7 +5,6 @@ use Rattle.items.specs.declared.Reading.{Reading}
 use Rattle.course.proofs.Found.{found_moves}
 use Rattle.course.specs.Ready.{answer_here}
 use Rattle.run.specs.Current.{answer_saying}
-use borrow.Author.Rules.{rules}
 use Rattle.run.proofs.current.answer_saying.Goals as goal
 
 pub item_saying-requires : goal.item_saying-requires

@@ -2,7 +2,6 @@
 use Rattle.run.specs.Current.{end_saying}
 use Rattle.course.specs.Standing.{locks_of}
 use borrow.Author.Tests.{le-ltb, lt-ltb}
-use borrow.Author.Rules.{rules}
 use Rattle.run.proofs.current.end_saying.Goals as goal
 
 pub returns-then-run-locks : goal.returns-then-run-locks

@@ -2,7 +2,6 @@
 use mathlib.Core.Path.{refl}
 use Rattle.course.specs.Wording.{event_here}
 use Rattle.ring.specs.Walk.{quiet}
-use borrow.Author.Rules.{rules}
 use Rattle.run.proofs.current.event_here.Goals as goal
 
 pub returns : goal.returns

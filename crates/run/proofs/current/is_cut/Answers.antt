@@ -1,6 +1,5 @@
 -- `results::is_cut` meets its contract. On each way to a return, the tests and calls on the way choose the case of the definition.
 use Rattle.course.specs.Wording.{is_cut}
-use borrow.Author.Rules.{rules}
 use Rattle.run.proofs.current.is_cut.Goals as goal
 
 pub returns-in-Items : goal.returns-in-Items

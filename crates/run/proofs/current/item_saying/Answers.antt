@@ -1,6 +1,5 @@
 -- `current::item_saying` meets its contract. On each way to a return, the tests and calls on the way choose the case of the definition.
 use Rattle.run.specs.Current.{act_saying}
-use borrow.Author.Rules.{rules}
 use Rattle.run.proofs.current.item_saying.Goals as goal
 
 pub returns-in-Steps : goal.returns-in-Steps

@@ -3,7 +3,6 @@ use native.Mathlib.Omega.{arith}
 use Rattle.course.proofs.Moves.{nodes_most}
 use Rattle.run.specs.Current.{saying_in}
 use borrow.Author.Tests.{le-ltb, lt-ltb}
-use borrow.Author.Rules.{rules}
 use Rattle.run.proofs.current.items_saying.Goals as goal
 
 pub event_saying-requires : goal.event_saying-requires

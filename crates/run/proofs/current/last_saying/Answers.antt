@@ -2,7 +2,6 @@
 use Rattle.run.specs.Current.{saying}
 use Rattle.course.specs.Wording.{last_line}
 use Rattle.course.specs.Standing.{locks_of}
-use borrow.Author.Rules.{rules}
 use Rattle.run.proofs.current.last_saying.Goals as goal
 
 pub returns : goal.returns

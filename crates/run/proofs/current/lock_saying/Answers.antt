@@ -1,7 +1,6 @@
 -- `current::lock_saying` meets its contract. On each way to a return, the tests and calls on the way choose the case of the definition.
 use Rattle.run.specs.Current.{saying}
 use Rattle.course.specs.Wording.{lock_line}
-use borrow.Author.Rules.{rules}
 use Rattle.run.proofs.current.lock_saying.Goals as goal
 
 pub returns : goal.returns

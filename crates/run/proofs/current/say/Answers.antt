@@ -1,6 +1,5 @@
 -- `current::say` meets its contract. On each way to a return, the tests and calls on the way choose the case of the definition.
 use Rattle.run.specs.Current.{saying_now, saying_in}
-use borrow.Author.Rules.{rules}
 use Rattle.run.proofs.current.say.Goals as goal
 
 pub returns-in-Items : goal.returns-in-Items

@@ -5,10 +5,9 @@ use mathlib.Core.List.{List, [], ◌∷◌}
 use native.Mathlib.Omega.{arith}
 use lib.ListN.{length, take, drop}
 use Rattle.lines.specs.Line.{line, buffer_after, writing, written_length}
-use Rattle.wording.specs.Wording.{numbers_of, text}
+use Rattle.wording.specs.Wording.{text}
 use Rattle.run.proofs.Numbers.{numbers_four, numbers_taken}
 use Rattle.lines.proofs.Behind.{told_length, put_back}
-use borrow.Author.Rules.{rules}
 use Rattle.run.proofs.filling.put.Goals as goal
 
 pub slice_bounds-numbers-end : goal.slice_bounds-numbers-end

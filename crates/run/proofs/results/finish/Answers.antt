@@ -1,10 +1,6 @@
 -- `results::finish` meets its contract. In its loop each line said leaves the end as it was.
-use mathlib.Core.Path.{◌≡◌, refl, sym, ap, ◌∙◌}
-use mathlib.Core.Bool.{true}
-use lib.ListN.{length}
-use borrow.Author.Rules.{rules}
-use Rattle.course.specs.Whole.{Course, course}
-use Rattle.course.specs.Ready.{ready}
+use mathlib.Core.Path.{refl, sym, ap, ◌∙◌}
+use Rattle.course.specs.Whole.{Course}
 use Rattle.run.proofs.Fills.{fewer_lines, same_end, end_over}
 use Rattle.run.proofs.results.finish.Goals as goal
 

@@ -1,11 +1,9 @@
 -- `results::finish` meets its contract. In its loop each line said leaves the end as it was.
-use mathlib.Core.Path.{◌≡◌, refl, sym, ap, ◌∙◌}
+use mathlib.Core.Path.{◌≡◌}
 use mathlib.Core.Bool.{true}
 use lib.ListN.{length}
-use borrow.Author.Rules.{rules}
-use Rattle.course.specs.Whole.{Course, course}
+use Rattle.course.specs.Whole.{course}
 use Rattle.course.specs.Ready.{ready}
-use Rattle.run.proofs.Fills.{fewer_lines, same_end, end_over}
 use Rattle.run.proofs.results.finish.Given as goal
 
 abbrev pub invariant-loop-here : goal.invariant-loop-here

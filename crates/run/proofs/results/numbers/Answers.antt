@@ -1,7 +1,6 @@
 -- `results::numbers` meets its contract. On each way to a return, the tests and calls on the way choose the case of the definition.
 use Rattle.run.specs.Outcomes.{outcome_of}
 use Rattle.course.specs.Standing.{locks_of}
-use borrow.Author.Rules.{rules}
 use Rattle.run.proofs.results.numbers.Goals as goal
 
 pub returns : goal.returns

@@ -1,6 +1,5 @@
 -- `results::refusal_of` meets its contract. On each way to a return, the tests and calls on the way choose the case of the definition.
 use Rattle.run.specs.Outcomes.{refusal_of}
-use borrow.Author.Rules.{rules}
 use Rattle.run.proofs.results.refusal_of.Goals as goal
 
 pub returns-in-Items : goal.returns-in-Items

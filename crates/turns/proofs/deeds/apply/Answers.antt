@@ -1,6 +1,5 @@
 -- `turns::deeds::apply` meets its contract. On each way to a return, the tests and calls on the way choose the case of the definition.
 use Rattle.turns.specs.Turn.{apply}
-use borrow.Author.Rules.{rules}
 use Rattle.turns.proofs.deeds.apply.Goals as goal
 
 pub returns-in-Passes : goal.returns-in-Passes

@@ -1,6 +1,5 @@
 -- `turns::deeds::event_of` meets its contract. On each way to a return, the tests and calls on the way choose the case of the definition.
 use Rattle.turns.specs.Turn.{event_of}
-use borrow.Author.Rules.{rules}
 use Rattle.turns.proofs.deeds.event_of.Goals as goal
 
 pub returns-in-Passes : goal.returns-in-Passes

@@ -1,6 +1,5 @@
 -- `turns::deeds::grant_car` meets its contract. On each way to a return, the tests and calls on the way choose the case of the definition.
 use Rattle.turns.specs.Turn.{grant_car}
-use borrow.Author.Rules.{rules}
 use Rattle.turns.proofs.deeds.grant_car.Goals as goal
 
 pub returns-then-multiring : goal.returns-then-multiring

@@ -1,6 +1,5 @@
 -- `usernode::Node::astray` meets its contract. On each way to a return, the tests and calls on the way choose the case of the definition.
 use Rattle.usernode.specs.Astray.{astray}
-use borrow.Author.Rules.{rules}
 use Rattle.usernode.proofs.Node.astray.Goals as goal
 
 pub returns-in-Idle : goal.returns-in-Idle

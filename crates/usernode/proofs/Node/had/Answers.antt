@@ -1,6 +1,5 @@
 -- `usernode::Node::had` meets its contract. On each way to a return, the tests and calls on the way choose the case of the definition.
 use Rattle.usernode.specs.Node.{had}
-use borrow.Author.Rules.{rules}
 use Rattle.usernode.proofs.Node.had.Goals as goal
 
 pub returns-then-has : goal.returns-then-has

@@ -1,6 +1,5 @@
 -- `usernode::Node::on_idle` meets its contract. On each way to a return, the tests and calls on the way choose the case of the definition.
 use Rattle.usernode.specs.Rules.{on_idle}
-use borrow.Author.Rules.{rules}
 use Rattle.usernode.proofs.Node.on_idle.Goals as goal
 
 pub returns-then-self : goal.returns-then-self

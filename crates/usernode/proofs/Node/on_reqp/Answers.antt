@@ -1,7 +1,6 @@
 -- `usernode::Node::on_reqp` meets its contract. On each way to a return, the tests and calls on the way choose the case of the definition.
 use Rattle.usernode.specs.Rules.{on_reqp}
 use borrow.Author.Tests.{eq-eqb, ne_eqb}
-use borrow.Author.Rules.{rules}
 use Rattle.usernode.proofs.Node.on_reqp.Goals as goal
 
 pub returns-then-source-me : goal.returns-then-source-me

@@ -2,7 +2,6 @@
 -- and `numbered` has its number.
 use Rattle.usernode.specs.Rules.{rule}
 use Rattle.usernode.proofs.Numbers.{numbered}
-use borrow.Author.Rules.{rules}
 use Rattle.usernode.proofs.Node.rule.Goals as goal
 
 pub returns-in-Idle : goal.returns-in-Idle

@@ -1,6 +1,5 @@
 -- `usernode::Node::sound` meets its contract. On each way to a return, the tests and calls on the way choose the case of the definition.
 use Rattle.usernode.specs.Sound.{node_sound}
-use borrow.Author.Rules.{rules}
 use Rattle.usernode.proofs.Node.sound.Goals as goal
 
 pub returns-then-all_below-2 : goal.returns-then-all_below-2

@@ -1,7 +1,6 @@
 -- `usernode::Node::unready` meets its contract. On each way to a return, the tests and calls on the way choose the case of the definition.
 use Rattle.usernode.specs.Astray.{unready}
 use borrow.Author.Tests.{eq-eqb, ne_eqb}
-use borrow.Author.Rules.{rules}
 use Rattle.usernode.proofs.Node.unready.Goals as goal
 
 pub returns-then-self : goal.returns-then-self

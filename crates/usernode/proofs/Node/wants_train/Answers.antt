@@ -1,6 +1,5 @@
 -- `usernode::Node::wants_train` meets its contract. On each way to a return, the tests and calls on the way choose the case of the definition.
 use Rattle.usernode.specs.Node.{wants_train}
-use borrow.Author.Rules.{rules}
 use Rattle.usernode.proofs.Node.wants_train.Goals as goal
 
 pub returns-then-is_idle : goal.returns-then-is_idle

@@ -1,6 +1,5 @@
 -- `usernode::astray::waits_reqp` meets its contract. On each way to a return, the tests and calls on the way choose the case of the definition.
 use Rattle.usernode.specs.Astray.{waits_reqp}
-use borrow.Author.Rules.{rules}
 use Rattle.usernode.proofs.astray.waits_reqp.Goals as goal
 
 pub returns-in-Idle : goal.returns-in-Idle

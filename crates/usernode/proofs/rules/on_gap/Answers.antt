@@ -1,6 +1,5 @@
 -- `usernode::rules::on_gap` meets its contract. On each way to a return, the tests and calls on the way choose the case of the definition.
 use Rattle.usernode.specs.Rules.{on_gap}
-use borrow.Author.Rules.{rules}
 use Rattle.usernode.proofs.rules.on_gap.Goals as goal
 
 pub returns-in-Idle : goal.returns-in-Idle

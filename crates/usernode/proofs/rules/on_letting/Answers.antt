@@ -1,7 +1,6 @@
 -- `usernode::rules::on_letting` meets its contract. On each way to a return, the tests and calls on the way choose the case of the definition.
 use Rattle.usernode.specs.Rules.{on_letting}
 use borrow.Author.Tests.{eq-eqb, ne_eqb}
-use borrow.Author.Rules.{rules}
 use Rattle.usernode.proofs.rules.on_letting.Goals as goal
 
 pub returns-then-letting-eq0 : goal.returns-then-letting-eq0

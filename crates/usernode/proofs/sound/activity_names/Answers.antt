@@ -1,5 +1,4 @@
 -- `usernode::sound::activity_names` meets its contract: on each way to a return, the test on the way gives a part of what `lock_of` promises.
-use borrow.Author.Rules.{rules}
 use Rattle.usernode.proofs.sound.activity_names.Goals as goal
 
 pub returns-then-is_idle : goal.returns-then-is_idle

@@ -1,6 +1,5 @@
 -- `usernode::sound::letting_allowed` meets its contract. On each way to a return, the tests and calls on the way choose the case of the definition.
 use Rattle.usernode.specs.Sound.{letting_allowed}
-use borrow.Author.Rules.{rules}
 use Rattle.usernode.proofs.sound.letting_allowed.Goals as goal
 
 pub returns-then-multiring : goal.returns-then-multiring

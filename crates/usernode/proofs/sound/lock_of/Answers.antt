@@ -1,7 +1,6 @@
 -- `usernode::sound::lock_of` meets its contract. On each way to a return, the tests and calls on the way choose the case of the definition.
 use Rattle.usernode.specs.Node.{is_idle}
 use Rattle.usernode.specs.Sound.{activity_names}
-use borrow.Author.Rules.{rules}
 use Rattle.usernode.proofs.sound.lock_of.Goals as goal
 
 pub returns-in-Idle : goal.returns-in-Idle

@@ -1,6 +1,5 @@
 -- `zeronode::ZeroNode::appended` meets its contract: the definition goes by the same test.
 use borrow.Author.Tests.{le-ltb, lt-ltb}
-use borrow.Author.Rules.{rules}
 use Rattle.zeronode.specs.Turn.{appended}
 use Rattle.zeronode.proofs.ZeroNode.appended.Goals as goal
 

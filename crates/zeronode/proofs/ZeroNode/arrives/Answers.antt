@@ -1,5 +1,4 @@
 -- `zeronode::ZeroNode::arrives` meets its contract: the definition goes by the same test.
-use borrow.Author.Rules.{rules}
 use Rattle.zeronode.specs.Turn.{arrives}
 use Rattle.zeronode.proofs.ZeroNode.arrives.Goals as goal
 

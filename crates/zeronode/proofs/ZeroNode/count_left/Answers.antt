@@ -1,5 +1,4 @@
 -- `zeronode::ZeroNode::count_left` meets its contract: one clause of the definition for each rule.
-use borrow.Author.Rules.{rules}
 use Rattle.zeronode.specs.Turn.{count_left}
 use Rattle.zeronode.proofs.ZeroNode.count_left.Goals as goal
 

@@ -1,5 +1,4 @@
 -- `zeronode::ZeroNode::head_off` meets its contract, from what `shifted` ensures of the queue.
-use borrow.Author.Rules.{rules}
 use Rattle.zeronode.specs.Turn.{head_off}
 use Rattle.zeronode.proofs.ZeroNode.head_off.Goals as goal
 

@@ -1,5 +1,4 @@
 -- `zeronode::ZeroNode::overflows` meets its contract, from what `keeps`, `rule` and `count_left` ensure.
-use borrow.Author.Rules.{rules}
 use Rattle.zeronode.specs.Turn.{overflows}
 use Rattle.zeronode.proofs.ZeroNode.overflows.Goals as goal
 

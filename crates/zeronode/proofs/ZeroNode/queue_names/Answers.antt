@@ -1,10 +1,7 @@
 -- `zeronode::ZeroNode::queue_names` meets its contract. The loop's invariant: no place below i names anything that is missing.
-use Prim.Native.Nat.{◌≤◌, ◌-◌}
-use mathlib.Core.Bool.{true}
 use mathlib.Core.Path.{◌≡◌, sym}
 use borrow.Author.Rules.{rules}
 use Rattle.lists.proofs.Laws.{every_none, every_more, every-not}
-use Rattle.lists.specs.Loops.{every}
 use Rattle.zeronode.specs.Rules.{empty_slot}
 use Rattle.zeronode.specs.Sound.{place_names}
 use Rattle.zeronode.proofs.ZeroNode.queue_names.Goals as goal

@@ -1,11 +1,8 @@
 -- `zeronode::ZeroNode::queue_names` meets its contract. The loop's invariant: no place below i names anything that is missing.
 use Prim.Native.Nat.{◌≤◌, ◌-◌}
 use mathlib.Core.Bool.{true}
-use mathlib.Core.Path.{◌≡◌, sym}
-use borrow.Author.Rules.{rules}
-use Rattle.lists.proofs.Laws.{every_none, every_more, every-not}
+use mathlib.Core.Path.{◌≡◌}
 use Rattle.lists.specs.Loops.{every}
-use Rattle.zeronode.specs.Rules.{empty_slot}
 use Rattle.zeronode.specs.Sound.{place_names}
 use Rattle.zeronode.proofs.ZeroNode.queue_names.Given as goal
 

@@ -1,6 +1,5 @@
 -- `zeronode::ZeroNode::rule` meets its contract: an empty queue sends idle, and any other is judged by its head; `lettered` has the letter.
 use borrow.Author.Tests.{eq-eqb, ne_eqb}
-use borrow.Author.Rules.{rules}
 use Rattle.zeronode.proofs.Letters.{lettered}
 use Rattle.zeronode.specs.Rules.{zero_rule, empty_slot}
 use Rattle.zeronode.proofs.ZeroNode.rule.Goals as goal

@@ -1,6 +1,5 @@
 -- `zeronode::ZeroNode::sent` meets its contract: one clause of the definition for each rule. A queue whose head is sent has a car.
 use mathlib.Core.Path.{sym, ◌∙◌}
-use borrow.Author.Rules.{rules}
 use Rattle.zeronode.specs.Turn.{sends}
 use Rattle.zeronode.proofs.Queue.{token_from_queue, head_from_queue}
 use Rattle.zeronode.proofs.ZeroNode.sent.Goals as goal

@@ -1,6 +1,5 @@
 -- `zeronode::ZeroNode::sound` meets its contract: one part of the definition for each test.
 use borrow.Author.Tests.{le-leb, lt-leb}
-use borrow.Author.Rules.{rules}
 use Rattle.zeronode.specs.Sound.{zero_sound}
 use Rattle.zeronode.proofs.ZeroNode.sound.Goals as goal
 

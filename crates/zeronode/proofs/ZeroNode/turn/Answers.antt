@@ -1,6 +1,5 @@
 -- `zeronode::ZeroNode::turn` meets its contract: what `sent` and then `arrives` ensure, under the test of the count.
 use borrow.Author.Tests.{le-leb, lt-leb}
-use borrow.Author.Rules.{rules}
 use Rattle.zeronode.specs.Turn.{zero_turn}
 use Rattle.zeronode.proofs.ZeroNode.turn.Goals as goal
 
