@@ -1,5 +1,5 @@
 -- 01, "Actions between steps", of the node that is named, and the numbers 9 to 12.
-use Rattle.std.specs.Prelude.{ℕ, Bool, true, cond, not, ◌&&◌}
+use Rattle.std.specs.Prelude.{ℕ, Bool, true, cond, not, ◌&&◌, Result, Ok, Err}
 use Rattle.cars.specs.Cars.{release_needs_idle}
 use Rattle.words.specs.Words.{has, without_lock}
 use Rattle.usernode.specs.declared.Node.{Node}
@@ -7,21 +7,25 @@ use Rattle.usernode.specs.declared.Activity.{Activity}
 use Rattle.usernode.specs.declared.Activity.TheVariants.{ToSendReqp, ToSendDov}
 use Rattle.acts.specs.declared.Action.{Action}
 use Rattle.acts.specs.declared.Action.TheVariants.{Take, Release, Force}
-use Rattle.acts.specs.declared.ActionAnswer.{ActionAnswer}
-use Rattle.acts.specs.declared.ActionAnswer.TheVariants.{Accepted, NoSuchNode, NoSuchLock, NotIdle, Holds, LettingGo, DoesNotHold, BadState}
+use Rattle.acts.specs.declared.ActionRefusal.{ActionRefusal}
+use Rattle.acts.specs.declared.ActionRefusal.TheVariants.{NoSuchNode, NoSuchLock, NotIdle, Holds, LettingGo, DoesNotHold, BadState}
 use Rattle.usernode.specs.Node.{is_idle}
 use Rattle.usernode.specs.Node.{let_go}
 
+-- the number of a refusal
+unfoldable pub action_refusal_number : ActionRefusal → ℕ
+action_refusal_number NoSuchNode = 7
+action_refusal_number NoSuchLock = 8
+action_refusal_number NotIdle = 9
+action_refusal_number Holds = 10
+action_refusal_number LettingGo = 11
+action_refusal_number DoesNotHold = 12
+action_refusal_number BadState = 13
+
 -- the number of an answer; 0: accepted
-unfoldable pub action_answer_number : ActionAnswer → ℕ
-action_answer_number Accepted = 0
-action_answer_number NoSuchNode = 7
-action_answer_number NoSuchLock = 8
-action_answer_number NotIdle = 9
-action_answer_number Holds = 10
-action_answer_number LettingGo = 11
-action_answer_number DoesNotHold = 12
-action_answer_number BadState = 13
+unfoldable pub action_answer_number : Result Unit ActionRefusal → ℕ
+action_answer_number (Ok nothing) = 0
+action_answer_number (Err refusal) = action_refusal_number refusal
 
 -- 10 "take or force: the node holds the lock", 11 "take or force: the node is letting the lock go"; 0: none applies
 unfoldable pub wish_number : Node → ℕ → ℕ

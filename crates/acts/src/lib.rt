@@ -2,22 +2,21 @@
 #![tactic(auto)]
 
 ghost use Rattle.std.specs.Prelude.{◌≡◌};
-ghost use Rattle.acts.specs.Actions.{action_answer_number, wish_number, release_number, later_number, needs_idle, node_number, busy_with, released, acted};
+ghost use Rattle.acts.specs.Actions.{action_refusal_number, action_answer_number, wish_number, release_number, needs_idle, node_number, acted};
 
 use usernode::{Activity, Node};
 
 // The three actions between steps.
-#[derive(Clone, Copy)]
+#[derive(Clone, Copy, Debug, PartialEq, Eq)]
 pub enum Action {
     Take,
     Release,
     Force,
 }
 
-// The answer to an action: accepted, 7 to 12, or 13.
-#[derive(Clone, Copy)]
-pub enum ActionAnswer {
-    Accepted,
+// Why an action is refused: 7 to 12, or 13.
+#[derive(Clone, Copy, Debug, PartialEq, Eq)]
+pub enum ActionRefusal {
     NoSuchNode,
     NoSuchLock,
     NotIdle,
@@ -27,112 +26,104 @@ pub enum ActionAnswer {
     BadState,
 }
 
+impl ActionRefusal {
+    // The refusal's number in 01.
+    #[tactic(auto, unfolding(crate::specs::Actions::action_refusal_number))]
+    pub fn number(self) -> u8
+        ensures { result ≡ action_refusal_number self }
+    {
+        match self {
+            ActionRefusal::NoSuchNode => 7,
+            ActionRefusal::NoSuchLock => 8,
+            ActionRefusal::NotIdle => 9,
+            ActionRefusal::Holds => 10,
+            ActionRefusal::LettingGo => 11,
+            ActionRefusal::DoesNotHold => 12,
+            ActionRefusal::BadState => 13,
+        }
+    }
+}
+
 // The answer's number in 01; 0: accepted.
-pub fn answer_number(answer: ActionAnswer) -> u8
+#[tactic(auto, unfolding(crate::specs::Actions::action_answer_number))]
+pub fn answer_number(answer: Result<(), ActionRefusal>) -> u8
     ensures { result ≡ action_answer_number answer }
 {
     match answer {
-        ActionAnswer::Accepted => 0,
-        ActionAnswer::NoSuchNode => 7,
-        ActionAnswer::NoSuchLock => 8,
-        ActionAnswer::NotIdle => 9,
-        ActionAnswer::Holds => 10,
-        ActionAnswer::LettingGo => 11,
-        ActionAnswer::DoesNotHold => 12,
-        ActionAnswer::BadState => 13,
+        Ok(()) => 0,
+        Err(refusal) => refusal.number(),
     }
 }
 
 // Take and force: 10 and 11.
-fn answer_to_wish(node: Node, lock: u8) -> ActionAnswer
+#[tactic(auto, unfolding(crate::specs::Actions::action_refusal_number, crate::specs::Actions::action_answer_number, crate::specs::Actions::wish_number))]
+fn answer_to_wish(node: Node, lock: u8) -> Result<(), ActionRefusal>
     ensures { action_answer_number result ≡ wish_number node lock }
 {
     if words::has(node.held, lock) {
-        return ActionAnswer::Holds;
+        return Err(ActionRefusal::Holds);
     }
     if words::has(node.letting, lock) {
-        return ActionAnswer::LettingGo;
+        return Err(ActionRefusal::LettingGo);
     }
-    ActionAnswer::Accepted
+    Ok(())
 }
 
 // Release: 12.
-fn answer_to_release(node: Node, lock: u8) -> ActionAnswer
+#[tactic(auto, unfolding(crate::specs::Actions::action_refusal_number, crate::specs::Actions::action_answer_number, crate::specs::Actions::release_number))]
+fn answer_to_release(node: Node, lock: u8) -> Result<(), ActionRefusal>
     ensures { action_answer_number result ≡ release_number node lock }
 {
     if words::has(node.held, lock) {
-        return ActionAnswer::Accepted;
-    }
-    ActionAnswer::DoesNotHold
-}
-
-// 10 to 12, by the action.
-fn later_answer(node: Node, action: Action, lock: u8) -> ActionAnswer
-    ensures { action_answer_number result ≡ later_number action node lock }
-{
-    match action {
-        Action::Take => answer_to_wish(node, lock),
-        Action::Release => answer_to_release(node, lock),
-        Action::Force => answer_to_wish(node, lock),
+        Ok(())
+    } else {
+        Err(ActionRefusal::DoesNotHold)
     }
 }
 
 // Whether an action needs an idle activity: take and force always, a release by the rules.
+#[tactic(auto, unfolding(crate::specs::Actions::needs_idle))]
 fn needs_idle(rules: u8, action: Action) -> bool
     ensures { result ≡ needs_idle rules action }
 {
     match action {
-        Action::Take => true,
+        Action::Take | Action::Force => true,
         Action::Release => cars::release_needs_idle(rules),
-        Action::Force => true,
     }
 }
 
 // The node's answer to an action: accepted, or 9 to 12.
-pub fn answer(node: Node, rules: u8, action: Action, lock: u8) -> ActionAnswer
+#[tactic(auto, unfolding(crate::specs::Actions::action_refusal_number, crate::specs::Actions::action_answer_number, crate::specs::Actions::later_number, crate::specs::Actions::node_number))]
+pub fn answer(node: Node, rules: u8, action: Action, lock: u8) -> Result<(), ActionRefusal>
     ensures { action_answer_number result ≡ node_number rules action node lock }
 {
-    let doing = node.activity;
-    if usernode::is_idle(doing) {
-        return later_answer(node, action, lock);
+    if !usernode::is_idle(node.activity) && needs_idle(rules, action) {
+        return Err(ActionRefusal::NotIdle);
     }
-    if needs_idle(rules, action) {
-        return ActionAnswer::NotIdle;
-    }
-    later_answer(node, action, lock)
-}
-
-// The node with another activity.
-fn busy_with(node: Node, activity: Activity) -> Node
-    ensures { result ≡ busy_with node activity }
-{
-    let car = node.car;
-    Node {
-        car: car,
-        flag: node.flag,
-        activity: activity,
-        held: node.held,
-        letting: node.letting,
+    match action {
+        Action::Take | Action::Force => answer_to_wish(node, lock),
+        Action::Release => answer_to_release(node, lock),
     }
 }
 
-// The node after an accepted action.
+// The node after an accepted action. Apart from `answer`: each is promised of every node, refused or not.
+#[tactic(auto, unfolding(crate::specs::Actions::busy_with, crate::specs::Actions::released, crate::specs::Actions::acted))]
 pub fn acted(node: Node, rules: u8, action: Action, lock: u8) -> Node
     ensures { result ≡ acted rules action node lock }
 {
     match action {
-        Action::Take => busy_with(node, Activity::ToSendReqp(lock)),
-        Action::Release => released(node, rules, lock),
-        Action::Force => busy_with(node, Activity::ToSendDov(lock)),
+        Action::Take => Node {
+            activity: Activity::ToSendReqp(lock),
+            ..node
+        },
+        Action::Release => Node {
+            held: words::without_lock(node.held, lock),
+            letting: usernode::let_go(rules, node.letting, lock),
+            ..node
+        },
+        Action::Force => Node {
+            activity: Activity::ToSendDov(lock),
+            ..node
+        },
     }
-}
-
-// The node that has given a lock up.
-fn released(node: Node, rules: u8, lock: u8) -> Node
-    ensures { result ≡ released rules node lock }
-{
-    let mut next = node;
-    next.held = words::without_lock(node.held, lock);
-    next.letting = usernode::let_go(rules, node.letting, lock);
-    next
 }

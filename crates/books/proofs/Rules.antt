@@ -91,7 +91,7 @@ module _ (k r : ℕ) (a : Alike k r) where
   unfolding zero_sound place_names
   zero-sound =
       λ i nodes locks node. leb node.count queue_places && names_at nodes locks node.car i
-      && every (λ place. names_at nodes locks (get_or node.queue place empty_slot).car i) node.count
+      && every (λ place. names_at nodes locks (get_or node.queue place empty_slot) i) node.count
 
   pub junction-sound : junction_sound k ≡ junction_sound r
   unfolding junction_sound

@@ -66,7 +66,7 @@ module _ (k : ℕ) (state : State) (a : Alike k state.plan.rules) where
         last = here.car;
         astray = walk.astray || astray here (walk.passed + 1) walk.last;
         nodes = set walk.nodes walk.passed turned.node;
-        events = set walk.events walk.passed (record { event = turned.event });
+        events = set walk.events walk.passed turned.event;
         junctions = walk.junctions;
       }
 

@@ -8,11 +8,6 @@ use positions::VALUES;
 use ring::State;
 use std::io::Result;
 
-// Writes what was asked and a number.
-fn say(rt: &impl Print, what: &str, number: u64) -> Result<()> {
-    println!(rt; "{what}: {number}")
-}
-
 // Multiring rules, one lock, two positions: a junction with two nodes (1 and 2), then node 3 on the main ring.
 fn small_plan() -> Plan {
     let mut values = [0u8; VALUES];
@@ -21,33 +16,25 @@ fn small_plan() -> Plan {
         rules: 2,
         locks: 1,
         positions: 2,
-        values: values,
+        values,
     }
 }
 
-// Tells an action's number, and hands its state on.
+// Takes lock 0, tells the action's number, and hands its state on.
 fn after_take(rt: &impl Print, state: State, node: u8, what: &str) -> Result<State> {
     let taken = state.take(node, 0);
-    let answer = taken.answer;
-    say(rt, what, acts::answer_number(answer) as u64)?;
+    println!(rt; "{what}: {}", acts::answer_number(taken.answer))?;
     Ok(taken.state)
 }
 
 // One step, and then as many as bring the first event, at most 20: the event of node 1, which stands at place 0.
 fn after_steps(rt: &impl Print, state: State) -> Result<State> {
     let stepped = state.step();
-    let answer = stepped.answer;
-    say(rt, "a step", ring::step_number(answer) as u64)?;
-    let next = stepped.state;
-    let advanced = next.advance(20);
-    say(rt, "steps to the first event", advanced.done as u64)?;
-    let happening = advanced.events[0];
-    let event = happening.event;
-    say(
-        rt,
-        "the letter of node 1's event, 71 for G",
-        turns::event_letter(event) as u64,
-    )?;
+    println!(rt; "a step: {}", ring::step_number(stepped.answer))?;
+    let advanced = stepped.state.advance(20);
+    println!(rt; "steps to the first event: {}", advanced.done)?;
+    let letter = turns::event_letter(advanced.events[0]);
+    println!(rt; "the letter of node 1's event, 71 for G: {letter}")?;
     Ok(advanced.state)
 }
 
@@ -55,10 +42,9 @@ fn after_steps(rt: &impl Print, state: State) -> Result<State> {
 fn refused_line(rt: &impl Print) -> Result<()> {
     let mut buffer = [b'-'; 4];
     let written = lines::write_line(&mut buffer, 0, b'T', &[1, 0]);
-    say(
-        rt,
-        "a line of 8 bytes into a buffer of 4",
-        lines::written_number(written) as u64,
+    println!(rt;
+        "a line of 8 bytes into a buffer of 4: {}",
+        lines::written_number(written)
     )?;
     rt.write_all(&buffer)?;
     println!(rt)
@@ -66,8 +52,7 @@ fn refused_line(rt: &impl Print) -> Result<()> {
 
 fn main(rt: HostRuntime) -> Result<()> {
     let started = State::start(small_plan());
-    let answer = started.answer;
-    say(&rt, "start", ring::plan_number(answer) as u64)?;
+    println!(rt; "start: {}", ring::plan_number(started.answer))?;
     let asking = after_take(&rt, started.state, 1, "take of lock 0 by node 1")?;
     let holding = after_steps(&rt, asking)?;
     // refused: the node holds the lock (10), and the plan has no node 4 (7); the state comes back as it was

@@ -1,6 +1,6 @@
 -- 01, "The plan and the things in it": rules and cars; of number 13 what is said of a car; the flag that goes with the cars sent.
 use Rattle.std.specs.Prelude.{ℕ, Bool, true, false, ◌&&◌, ◌||◌, eqb, ltb, leb}
-use Rattle.cars.specs.declared.Notice.{Notice}
+use Rattle.cars.specs.declared.Tag.{Tag}
 use Rattle.cars.specs.declared.Car.{Car}
 use Rattle.cars.specs.declared.Car.TheVariants.{Idle, Token, Null, Reqp, Failp, Dov, Gotp, Didv}
 
@@ -23,7 +23,7 @@ unfoldable pub names : ℕ → ℕ → ℕ → ℕ → Bool
 names nodes locks lock source = is_node nodes source && ltb lock locks
 
 -- a gotp or didv: under multiring rules only
-unfoldable pub notice_names : ℕ → ℕ → ℕ → Notice → Bool
+unfoldable pub notice_names : ℕ → ℕ → ℕ → Tag → Bool
 notice_names rules nodes locks notice = multiring rules && names nodes locks notice.lock notice.source
 
 -- 13: "a car naming a missing node or lock", "gotp or didv under ring rules"; token, idle and null carry nothing

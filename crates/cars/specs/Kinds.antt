@@ -1,12 +1,11 @@
 -- What the rules of 01 ask of a car: which of the cars it is and, of one that carries a lock and a source, what they are.
 use Rattle.std.specs.Prelude.{Bool, true, false}
 use Rattle.cars.specs.declared.Tag.{Tag}
-use Rattle.cars.specs.declared.Notice.{Notice}
 use Rattle.cars.specs.declared.Car.{Car}
 use Rattle.cars.specs.declared.Car.TheVariants.{Idle, Token, Null, Reqp, Failp, Dov, Gotp, Didv}
 
 -- what is true of a car, said for each: idle, token, null; reqp, failp, dov; gotp, didv
-abbrev pub by_car : Bool → Bool → Bool → (Tag → Bool) → (Tag → Bool) → (Tag → Bool) → (Notice → Bool) → (Notice → Bool) → Car → Bool
+abbrev pub by_car : Bool → Bool → Bool → (Tag → Bool) → (Tag → Bool) → (Tag → Bool) → (Tag → Bool) → (Tag → Bool) → Car → Bool
 by_car idle token null reqp failp dov gotp didv Idle = idle
 by_car idle token null reqp failp dov gotp didv Token = token
 by_car idle token null reqp failp dov gotp didv Null = null
@@ -20,27 +19,24 @@ by_car idle token null reqp failp dov gotp didv (Didv notice) = didv notice
 abbrev pub no_tag : Tag → Bool
 no_tag tag = false
 
-abbrev pub no_notice : Notice → Bool
-no_notice notice = false
-
 unfoldable pub is_idle_car : Car → Bool
-is_idle_car = by_car true false false no_tag no_tag no_tag no_notice no_notice
+is_idle_car = by_car true false false no_tag no_tag no_tag no_tag no_tag
 
 unfoldable pub is_token_car : Car → Bool
-is_token_car = by_car false true false no_tag no_tag no_tag no_notice no_notice
+is_token_car = by_car false true false no_tag no_tag no_tag no_tag no_tag
 
 -- a reqp of whose lock and source this is true; the same for the other four
 unfoldable pub reqp_that : (Tag → Bool) → Car → Bool
-reqp_that asked = by_car false false false asked no_tag no_tag no_notice no_notice
+reqp_that asked = by_car false false false asked no_tag no_tag no_tag no_tag
 
 unfoldable pub failp_that : (Tag → Bool) → Car → Bool
-failp_that asked = by_car false false false no_tag asked no_tag no_notice no_notice
+failp_that asked = by_car false false false no_tag asked no_tag no_tag no_tag
 
 unfoldable pub dov_that : (Tag → Bool) → Car → Bool
-dov_that asked = by_car false false false no_tag no_tag asked no_notice no_notice
+dov_that asked = by_car false false false no_tag no_tag asked no_tag no_tag
 
-unfoldable pub gotp_that : (Notice → Bool) → Car → Bool
-gotp_that asked = by_car false false false no_tag no_tag no_tag asked no_notice
+unfoldable pub gotp_that : (Tag → Bool) → Car → Bool
+gotp_that asked = by_car false false false no_tag no_tag no_tag asked no_tag
 
-unfoldable pub didv_that : (Notice → Bool) → Car → Bool
-didv_that asked = by_car false false false no_tag no_tag no_tag no_notice asked
+unfoldable pub didv_that : (Tag → Bool) → Car → Bool
+didv_that asked = by_car false false false no_tag no_tag no_tag no_tag asked

@@ -2,25 +2,19 @@
 // the flag that goes with the cars sent.
 #![tactic(auto)]
 
-ghost use Rattle.std.specs.Prelude.{◌≡◌, false, not, ◌&&◌, ◌||◌, ℕ};
+ghost use Rattle.std.specs.Prelude.{◌≡◌, ℕ, Option};
 ghost use Rattle.cars.specs.Cars.{multiring, release_needs_idle, is_node, names, car_names, flag_after};
+ghost use Rattle.cars.specs.Carried.{names_carried};
 
-// What a request carries: its lock and its source node.
-#[derive(Clone, Copy)]
+// What a car carries: its lock and its source node.
+#[derive(Clone, Copy, Debug, PartialEq, Eq, Hash)]
 pub struct Tag {
     pub lock: u8,
     pub source: u8,
 }
 
-// What a notice to the junctions carries: its lock and its source node.
-#[derive(Clone, Copy)]
-pub struct Notice {
-    pub lock: u8,
-    pub source: u8,
-}
-
-// A sender that rests sends idle. Gotp and didv exist under multiring rules only.
-#[derive(Clone, Copy)]
+// A sender that rests sends idle. Gotp and didv, the notices to the junctions, exist under multiring rules only.
+#[derive(Clone, Copy, Debug, PartialEq, Eq, Hash)]
 pub enum Car {
     Idle,
     Token,
@@ -28,130 +22,88 @@ pub enum Car {
     Reqp(Tag),
     Failp(Tag),
     Dov(Tag),
-    Gotp(Notice),
-    Didv(Notice),
+    Gotp(Tag),
+    Didv(Tag),
+}
+
+// What a state's plan has: its rules, how many nodes and how many locks.
+#[derive(Clone, Copy, Debug, PartialEq, Eq)]
+pub struct Limits {
+    pub rules: u8,
+    pub nodes: u8,
+    pub locks: u8,
 }
 
 // Whether the rules of this number have junctions, gotp, didv and letting go.
+#[tactic(auto, unfolding(crate::specs::Cars::multiring))]
 pub fn multiring(rules: u8) -> bool
     ensures { result ≡ multiring rules }
 {
-    if rules == 2 {
-        return true;
-    }
-    rules == 4
+    rules == 2 || rules == 4
 }
 
 // Whether a release needs an idle activity under the rules of this number.
+#[tactic(auto, unfolding(crate::specs::Cars::release_needs_idle))]
 pub fn release_needs_idle(rules: u8) -> bool
     ensures { result ≡ release_needs_idle rules }
 {
-    if rules == 1 {
-        return true;
-    }
-    rules == 2
+    rules == 1 || rules == 2
 }
 
 // Whether a number is that of one of the user nodes.
+#[tactic(auto, unfolding(crate::specs::Cars::is_node))]
 pub fn is_node(nodes: u8, node: u8) -> bool
     ensures { result ≡ is_node nodes node }
 {
-    if 1 <= node {
-        return node <= nodes;
-    }
-    false
+    1 <= node && node <= nodes
 }
 
 // Whether both the lock and the source are there.
-fn names(nodes: u8, locks: u8, lock: u8, source: u8) -> bool
-    ensures { result ≡ names nodes locks lock source }
+#[tactic(auto, unfolding(crate::specs::Cars::names))]
+fn names(limits: Limits, tag: Tag) -> bool
+    ensures { result ≡ names limits.nodes limits.locks tag.lock tag.source }
 {
-    if is_node(nodes, source) {
-        return lock < locks;
-    }
-    false
+    is_node(limits.nodes, tag.source) && tag.lock < limits.locks
 }
 
-// What a car carries: nothing, or a lock and a source, as a notice (gotp, didv) or as a request.
+// What a car that carries something carries: whether it is a notice (gotp, didv) and no request, its lock and its source.
 #[derive(Clone, Copy)]
 struct Carried {
-    nothing: bool,
     notice: bool,
-    lock: u8,
-    source: u8,
-}
-
-// A lock and a source.
-fn carrying(notice: bool, lock: u8, source: u8) -> Carried
-    ensures { result ≡ record { nothing = false; notice = notice; lock = lock; source = source } }
-{
-    Carried {
-        nothing: false,
-        notice: notice,
-        lock: lock,
-        source: source,
-    }
+    tag: Tag,
 }
 
 // What 13 asks of a car is asked of what it carries.
-fn carried_by(car: Car) -> Carried
-    ensures { (rules nodes locks : ℕ) → car_names rules nodes locks car ≡ (result.nothing || ((not result.notice || multiring rules) && names nodes locks result.lock result.source)) }
+#[tactic(auto, unfolding(crate::specs::Cars::car_names, crate::specs::Cars::notice_names))]
+fn carried_by(car: Car) -> Option<Carried>
+    ensures { (rules nodes locks : ℕ) → car_names rules nodes locks car ≡ names_carried rules nodes locks result }
 {
-    let nothing = Carried {
-        nothing: true,
-        notice: false,
-        lock: 0,
-        source: 0,
-    };
     match car {
-        Car::Idle => nothing,
-        Car::Token => nothing,
-        Car::Null => nothing,
-        Car::Reqp(tag) => carrying(false, tag.lock, tag.source),
-        Car::Failp(tag) => carrying(false, tag.lock, tag.source),
-        Car::Dov(tag) => carrying(false, tag.lock, tag.source),
-        Car::Gotp(notice) => carrying(true, notice.lock, notice.source),
-        Car::Didv(notice) => carrying(true, notice.lock, notice.source),
+        Car::Idle | Car::Token | Car::Null => None,
+        Car::Reqp(tag) | Car::Failp(tag) | Car::Dov(tag) => Some(Carried { notice: false, tag }),
+        Car::Gotp(tag) | Car::Didv(tag) => Some(Carried { notice: true, tag }),
     }
-}
-
-// Whether the rules have such a car: a notice under multiring rules only.
-fn has_such(rules: u8, notice: bool) -> bool
-    ensures { result ≡ (not notice || multiring rules) }
-{
-    if notice {
-        return multiring(rules);
-    }
-    true
 }
 
 // Whether a car names no missing node or lock, and is no gotp or didv under ring rules. By what it carries and not by its case,
 // since 13 asks it of every car of a state at every action.
-pub fn car_names(rules: u8, nodes: u8, locks: u8, car: Car) -> bool
-    ensures { result ≡ car_names rules nodes locks car }
+pub fn car_names(limits: Limits, car: Car) -> bool
+    ensures { result ≡ car_names limits.rules limits.nodes limits.locks car }
 {
-    let carried = carried_by(car);
-    if carried.nothing {
-        return true;
+    match carried_by(car) {
+        None => true,
+        Some(Carried { notice, tag }) => (!notice || multiring(limits.rules)) && names(limits, tag),
     }
-    if has_such(rules, carried.notice) {
-        return names(nodes, locks, carried.lock, carried.source);
-    }
-    false
 }
 
 // The in-train flag after a car was sent.
+#[tactic(auto, unfolding(crate::specs::Cars::flag_after))]
 pub fn flag_after(car: Car, flag: bool) -> bool
     ensures { result ≡ flag_after car flag }
 {
     match car {
         Car::Idle => false,
         Car::Token => true,
-        Car::Null => flag,
-        Car::Reqp(tag) => flag,
-        Car::Failp(tag) => flag,
-        Car::Dov(tag) => flag,
-        Car::Gotp(notice) => flag,
-        Car::Didv(notice) => flag,
+        _ => flag,
     }
 }

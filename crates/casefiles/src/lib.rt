@@ -1,7 +1,6 @@
 // The files of a case, which a program's argument names: the argument with an ending of four bytes; and how the cases end, as it is shown.
 #![tactic(auto)]
 
-ghost use Rattle.std.specs.Prelude.{◌≡◌};
 ghost use Rattle.io.specs.Counts.{IsPrefixLen};
 
 use files::Input;
@@ -21,61 +20,61 @@ pub fn arg_count(rt: &impl Env) -> usize {
     usize::MAX
 }
 
-// Opens the file whose name is an argument and an ending. A path has at most 4,096 bytes, and is text.
-pub fn open_case<R: Env + Files>(rt: &R, argument: usize, ending: &[u8; 4]) -> Result<R::File> {
-    let mut path = [0u8; 4096];
-    let length = match rt.arg(argument, &mut path) {
-        Ok(length) => length,
-        Err(FillError::NotPresent) => return Err(Error::from(ErrorKind::NotFound)),
-        Err(FillError::TooLong) => return Err(Error::from(ErrorKind::InvalidFilename)),
-    };
-    if 4092 < length {
-        return Err(Error::from(ErrorKind::InvalidFilename));
+// A case: what the program runs on, and the place of the argument that names the case.
+#[derive(Clone, Copy)]
+pub struct Case<'a, R> {
+    pub rt: &'a R,
+    pub argument: usize,
+}
+
+impl<R: Env + Files> Case<'_, R> {
+    // Opens the file whose name is the case's argument and an ending. A path has at most 4,096 bytes, and is text.
+    pub fn open(&self, ending: &[u8; 4]) -> Result<R::File> {
+        let no_path = Error::from(ErrorKind::InvalidFilename);
+        let mut path = [0u8; 4096];
+        let length = match self.rt.arg(self.argument, &mut path) {
+            Ok(length) => length,
+            Err(FillError::NotPresent) => return Err(Error::from(ErrorKind::NotFound)),
+            Err(FillError::TooLong) => return Err(no_path),
+        };
+        let end = length + ending.len();
+        if path.len() < end {
+            return Err(no_path);
+        }
+        path[length..end].copy_from_slice(ending);
+        let Ok(text) = str::from_utf8(&path[..end]) else {
+            return Err(no_path);
+        };
+        fs::open(self.rt, text)
     }
-    path[length] = ending[0];
-    path[length + 1] = ending[1];
-    path[length + 2] = ending[2];
-    path[length + 3] = ending[3];
-    match str::from_utf8(&path[..length + 4]) {
-        Ok(text) => fs::open(rt, text),
-        Err(_) => Err(Error::from(ErrorKind::InvalidFilename)),
+
+    // Reads the file whose name is the case's argument and an ending.
+    pub fn read(&self, ending: &[u8; 4], buffer: &mut [u8]) -> Input
+        ensures { IsPrefixLen result.length buffer.new }
+    {
+        match self.open(ending) {
+            Ok(mut file) => files::read_all(&mut file, buffer),
+            Err(error) => Input {
+                length: 0,
+                failed: Some(error),
+            },
+        }
     }
 }
 
-// Nothing was read.
-fn not_read(error: Error) -> Input
-    ensures { result.length ≡ 0 }
-{
-    Input {
-        length: 0,
-        failed: Some(error),
+impl<R: Env + Print> Case<'_, R> {
+    // Writes the case's name: its argument, or nothing where that has no room.
+    pub fn write_name(&self) -> Result<()> {
+        let mut name = [0u8; 4096];
+        let length = self.rt.arg(self.argument, &mut name).unwrap_or(0);
+        self.rt.write_all(&name[..length])
     }
-}
 
-// Reads the file whose name is an argument and an ending.
-pub fn read_case<R: Env + Files>(
-    rt: &R,
-    argument: usize,
-    ending: &[u8; 4],
-    buffer: &mut [u8],
-) -> Input
-    ensures { IsPrefixLen result.length buffer.new }
-{
-    match open_case(rt, argument, ending) {
-        Ok(mut file) => files::read_all(&mut file, buffer),
-        Err(error) => not_read(error),
-    }
-}
-
-// Writes how the case that an argument names ended.
-pub fn show_result<R: Env + Print>(rt: &R, argument: usize, agrees: bool) -> Result<()> {
-    let mut name = [0u8; 4096];
-    let length = rt.arg(argument, &mut name).unwrap_or(0);
-    rt.write_all(&name[..length])?;
-    if agrees {
-        println!(rt; " agrees")
-    } else {
-        println!(rt; " differs")
+    // Writes how the case ended.
+    pub fn show(&self, agrees: bool) -> Result<()> {
+        let result = if agrees { "agrees" } else { "differs" };
+        self.write_name()?;
+        println!(self.rt; " {result}")
     }
 }
 

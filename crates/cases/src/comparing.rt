@@ -6,12 +6,6 @@ use run::NIGHT_CEILING;
 pub fn file_agrees(file: &[u8], expected: &[u8]) -> bool {
     let mut buffer = [0u8; 65536];
     let schedule = nightfile::schedule_part(file);
-    let start = course::begin(file);
-    let filled = run::fill(start, schedule, NIGHT_CEILING, &mut buffer);
-    let used = filled.used;
-    let end = filled.run;
-    if !end.over {
-        return false;
-    }
-    check::same(&buffer[..used], expected)
+    let filled = run::fill(course::begin(file), schedule, NIGHT_CEILING, &mut buffer);
+    filled.run.over && &buffer[..filled.used] == expected
 }

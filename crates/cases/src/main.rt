@@ -4,47 +4,39 @@
 
 mod comparing;
 
+use casefiles::Case;
 use std::env::Env;
 use std::io::Result;
 use std::rt::Files;
 
-// Whether the case that an argument names agrees. What cannot be opened or read differs. So does a text that fills its buffer,
+// Whether a case agrees. What cannot be opened or read differs. So does a text that fills its buffer,
 // since there may be more of it.
-fn case_agrees<R: Env + Files>(rt: &R, argument: usize) -> bool {
+fn case_agrees<R: Env + Files>(case: &Case<'_, R>) -> bool {
     let mut file_buffer = [0u8; 65536];
-    let file = casefiles::read_case(rt, argument, b".bin", &mut file_buffer);
-    if file.failed.is_some() {
-        return false;
-    }
     let mut text_buffer = [0u8; 65536];
-    let text = casefiles::read_case(rt, argument, b".txt", &mut text_buffer);
-    if text.failed.is_some() {
-        return false;
-    }
-    let file_length = file.length;
-    let text_length = text.length;
-    if text_length == text_buffer.len() {
-        return false;
-    }
-    comparing::file_agrees(&file_buffer[..file_length], &text_buffer[..text_length])
+    let file = case.read(b".bin", &mut file_buffer);
+    let text = case.read(b".txt", &mut text_buffer);
+    file.failed.is_none()
+        && text.failed.is_none()
+        && text.length < text_buffer.len()
+        && comparing::file_agrees(&file_buffer[..file.length], &text_buffer[..text.length])
 }
 
 // Shows how one case ended, and answers with it.
-fn show_case<R: Env + Files + Print>(rt: &R, argument: usize) -> Result<bool> {
-    let agrees = case_agrees(rt, argument);
-    casefiles::show_result(rt, argument, agrees)?;
+fn show_case<R: Env + Files + Print>(case: &Case<'_, R>) -> Result<bool> {
+    let agrees = case_agrees(case);
+    case.show(agrees)?;
     Ok(agrees)
 }
 
+// As in sheet_cases: one function over a closure would be a new public one with nothing to promise.
 fn main(rt: HostRuntime) -> Result<()> {
     let count = casefiles::arg_count(&rt);
-    let mut agreed: usize = 0;
-    let mut tried: usize = 0;
+    let mut agreed = 0;
     for argument in 1..count {
-        if show_case(&rt, argument)? {
+        if show_case(&Case { rt: &rt, argument })? {
             agreed += 1;
         }
-        tried += 1;
     }
-    casefiles::show_total(&rt, agreed, tried)
+    casefiles::show_total(&rt, agreed, count.saturating_sub(1))
 }

@@ -8,8 +8,9 @@ use lib.Dec.{leb, ltb}
 use lib.ListN.{length}
 use borrow.Author.Tests.{leb-false, ltb-false, le-leb}
 use Rattle.items.specs.declared.Item.{Item}
-use Rattle.items.specs.declared.ItemAnswer.{ItemAnswer}
-use Rattle.items.specs.declared.ItemAnswer.TheVariants.{NoMore, Found, LeftOver, Bad}
+use Rattle.std.specs.Prelude.{Option, Some, None, Result, Ok, Err}
+use Rattle.items.specs.declared.ItemRefusal.{ItemRefusal}
+use Rattle.items.specs.declared.ItemRefusal.TheVariants.{LeftOver, Bad}
 use Rattle.items.specs.declared.Reading.{Reading}
 use Rattle.nightfile.specs.File.{byte_at}
 use Rattle.items.specs.Items.{item_of, place_at, reading, read_at}
@@ -18,10 +19,10 @@ use Rattle.course.specs.Whole.{and_others, items_within, items_from}
 -- what is read at a place: no item, or an item that ends within the schedule
 data Reads (long at : ℕ) (r : Reading) : Type 0 where
   none : ((others : List Item) → and_others r.answer others ≡ []) → Reads long at r
-  found : (item : Item) → r ≡ reading (Found item) (at + 3) → at + 3 ≤ long → Reads long at r
+  found : (item : Item) → r ≡ reading (Ok (Some item)) (at + 3) → at + 3 ≤ long → Reads long at r
 
 reads_by : (long at place : ℕ) (item : Item) (past short bad : Bool) → leb long at ≡ past → ltb (long - at) 3 ≡ short →
-    Reads long at (cond past (reading NoMore at) (cond short (reading LeftOver at) (cond bad (reading (Bad place) at) (reading (Found item) (at + 3)))))
+    Reads long at (cond past (reading (Ok None) at) (cond short (reading (Err LeftOver) at) (cond bad (reading (Err (Bad place)) at) (reading (Ok (Some item)) (at + 3)))))
 unfolding and_others reading
 reads_by long at place item true short bad p s = none (λ others. refl)
 reads_by long at place item false true bad p s = none (λ others. refl)
@@ -51,7 +52,7 @@ enough_by n m schedule at r same (none e) p q = e _ ∙ sym (e _)
 enough_by n m schedule at r same (found item e fits) p q =
     let a : length schedule - (at + 3) ≤ n = omega arith in
     let b : length schedule - (at + 3) ≤ m = omega arith in
-    rw e (ap (and_others (Found item)) (same (at + 3) a b))
+    rw e (ap (and_others (Ok (Some item))) (same (at + 3) a b))
 
 enough : (n m : ℕ) (schedule : List ℕ) (at : ℕ) → length schedule - at ≤ n → length schedule - at ≤ m → items_within n schedule at ≡ items_within m schedule at
 unfolding items_within
@@ -62,20 +63,20 @@ enough (suc n) (suc m) schedule at p q =
     enough_by n m schedule at (read_at schedule at) (λ place a b. enough n m schedule place a b) (reads schedule at) p q
 
 -- where an item is found, the place moves past it, within the schedule
-moves_by : (long at : ℕ) (r : Reading) (item : Item) → Reads long at r → r.answer ≡ Found item → (r.at ≡ at + 3) × (at + 3 ≤ long)
+moves_by : (long at : ℕ) (r : Reading) (item : Item) → Reads long at r → r.answer ≡ Ok (Some item) → (r.at ≡ at + 3) × (at + 3 ≤ long)
 unfolding and_others reading
 moves_by long at r item (none e) f =
-    let nothing : item ∷ [] ≡ [] = ap (λ (a : ItemAnswer). and_others a []) (sym f) ∙ e [] in
+    let nothing : item ∷ [] ≡ [] = ap (λ (a : Result (Option Item) ItemRefusal). and_others a []) (sym f) ∙ e [] in
     let count : length (item ∷ []) ≡ length {A = Item} [] = ap length nothing in
     absurd (omega (arith, count))
 moves_by long at r item (found other e fits) f = (ap (λ (x : Reading). x.at) e, fits)
 
-pub found_moves : (schedule : List ℕ) (at : ℕ) (item : Item) → (read_at schedule at).answer ≡ Found item
+pub found_moves : (schedule : List ℕ) (at : ℕ) (item : Item) → (read_at schedule at).answer ≡ Ok (Some item)
     → ((read_at schedule at).at ≡ at + 3) × (at + 3 ≤ length schedule)
 found_moves schedule at item f = moves_by (length schedule) at (read_at schedule at) item (reads schedule at) f
 
 -- it is then the first of the items from there
-first_by : (n at : ℕ) (schedule : List ℕ) (item : Item) → (read_at schedule at).answer ≡ Found item → at + 3 ≤ length schedule → length schedule - at ≤ n
+first_by : (n at : ℕ) (schedule : List ℕ) (item : Item) → (read_at schedule at).answer ≡ Ok (Some item) → at + 3 ≤ length schedule → length schedule - at ≤ n
     → items_within n schedule at ≡ item ∷ items_from schedule (at + 3)
 unfolding items_within items_from and_others
 first_by zero at schedule item f fits p = absurd (omega arith)
@@ -84,7 +85,7 @@ first_by (suc n) at schedule item f fits p =
     let b : length schedule - (at + 3) ≤ length schedule - (at + 3) = omega arith in
     rw (f, (found_moves schedule at item f).0) (ap (λ (others : List Item). item ∷ others) (enough n (length schedule - (at + 3)) schedule (at + 3) a b))
 
-pub items_found : (schedule : List ℕ) (at : ℕ) (item : Item) → (read_at schedule at).answer ≡ Found item
+pub items_found : (schedule : List ℕ) (at : ℕ) (item : Item) → (read_at schedule at).answer ≡ Ok (Some item)
     → items_from schedule at ≡ item ∷ items_from schedule (at + 3)
 unfolding items_from
 items_found schedule at item f =

@@ -1,7 +1,7 @@
 pub mod Found
-mod LookAhead
+pub mod LookAhead
 pub mod Moves
-mod Several
+pub mod Several
 pub mod Told
 pub mod Way
 pub mod Theorems

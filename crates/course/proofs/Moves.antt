@@ -11,7 +11,7 @@ use Rattle.plan.specs.Plan.{node_count}
 use Rattle.acts.specs.declared.Action.{Action}
 use Rattle.items.specs.declared.Item.{Item}
 use Rattle.items.specs.declared.Item.TheVariants.{Steps, Act}
-use Rattle.items.specs.declared.ItemAnswer.TheVariants.{Found}
+use Rattle.std.specs.Prelude.{Some, Ok}
 use Rattle.items.specs.Items.{read_at}
 use Rattle.ring.specs.declared.State.{State}
 use Rattle.ring.specs.State.{Told}
@@ -181,7 +181,7 @@ unfolding steps_item
 steps_items n run i = record { not_over = i.not_over; at-items = i.at-items }
 
 pub on_steps_lem : (ceiling : ℕ) (schedule : List ℕ) (run : Run) (n : ℕ) → AtItems run → nodes_of run ≤ run.next → run.left ≡ 0
-    → (read_at schedule run.at).answer ≡ Found (Steps n)
+    → (read_at schedule run.at).answer ≡ Ok (Some (Steps n))
     → course ceiling schedule run ≡ course ceiling schedule (steps_item n run)
 unfolding on_items items on_steps steps_item nodes_of
 on_steps_lem ceiling schedule run n i told left found =
@@ -197,7 +197,7 @@ unfolding action_item
 action_items action node lock run i = record { not_over = i.not_over; at-items = i.at-items }
 
 pub on_action : (ceiling : ℕ) (schedule : List ℕ) (run : Run) (action : Action) (node lock : ℕ) → AtItems run → nodes_of run ≤ run.next → run.left ≡ 0
-    → (read_at schedule run.at).answer ≡ Found (Act action node lock)
+    → (read_at schedule run.at).answer ≡ Ok (Some (Act action node lock))
     → course ceiling schedule run ≡ says (action_line action node lock run) run (action_item action node lock run) (course ceiling schedule (action_item action node lock run))
 unfolding on_items items action_item nodes_of
 on_action ceiling schedule run action node lock i told left found =

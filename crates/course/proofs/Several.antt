@@ -45,12 +45,16 @@ pub at_once : (ceiling steps left limit : ℕ) → limit ≡ min left (ceiling -
 at_once ceiling steps left limit e some below = record { some = omega arith; most = omega arith; room = omega arith }
 
 -- and those that are done where so many may be
-pub done-at_once : (ceiling steps left limit : ℕ) (state : State) (a : Advanced) → a ≡ advancing limit state → AtOnce ceiling steps left limit
+pub done_at_once : (ceiling steps left limit : ℕ) (state : State) (a : Advanced) → a ≡ advancing limit state → AtOnce ceiling steps left limit
     → AtOnce ceiling steps left a.done
-done-at_once ceiling steps left limit state a e o =
+done_at_once ceiling steps left limit state a e o =
     let some : 1 ≤ a.done = rw e (done-some limit state o.some) in
     let most : a.done ≤ limit = rw e (done_most limit state) in
     record { some = some; most = omega (arith, o.most); room = omega (arith, o.room) }
+
+pub done_fits : {ceiling steps left limit : ℕ} (state : State) {a : Advanced} → a ≡ advancing limit state → AtOnce ceiling steps left limit
+    → (1 ≤ a.done) × (a.done ≤ left) × (steps + a.done ≤ ceiling)
+done_fits state e o = let done = done_at_once _ _ _ _ _ _ e o in (done.some, done.most, done.room)
 
 -- they keep the plan
 advancing_plan : (n : ℕ) (state : State) → (advancing n state).state.plan ≡ state.plan
@@ -103,7 +107,7 @@ first_of_several run next a none some =
 
 -- past so many nodes with no event
 quiet_nodes : (ceiling : ℕ) (schedule : List ℕ) (n : ℕ) (run : Run) → AtItems run → run.next + n ≤ nodes_of run
-    → ((place : ℕ) → place < nodes_of run → is_event (get_or run.events place quiet).event ≡ false)
+    → ((place : ℕ) → place < nodes_of run → is_event (get_or run.events place quiet) ≡ false)
     → course ceiling schedule run ≡ course ceiling schedule (with_next run (run.next + n))
 unfolding past nodes_of event_here
 quiet_nodes ceiling schedule zero run i room e =
@@ -117,7 +121,7 @@ quiet_nodes ceiling schedule (suc n) run i room e =
 
 -- a silent step has no event to tell of
 no_event_told : (run : Run) → silent run.reached.state ≡ true → (place : ℕ) → place < nodes_of (one_step run)
-    → is_event (get_or (one_step run).events place quiet).event ≡ false
+    → is_event (get_or (one_step run).events place quiet) ≡ false
 unfolding one_step is_event event_letter nodes_of reached_next
 no_event_told run none place below =
     ap is_event (silent_place run.reached.state none place (omega (arith, step_nodes run)))

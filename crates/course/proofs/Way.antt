@@ -1,17 +1,18 @@
 -- The way of a run to its next line: each turn of the loop leaves its course as it was, and brings it nearer.
 use Prim.Native.Nat.{ℕ, ◌+◌, ◌-◌, ◌*◌, ◌≤◌, ◌<◌}
 use mathlib.Core.Path.{◌≡◌, refl, ◌∙◌, sym, ap}
-use mathlib.Core.Bool.{true, false}
+use mathlib.Core.Bool.{Bool, true, false, ◌||◌}
 use mathlib.Core.List.{List, []}
 use native.Mathlib.Omega.{arith}
 use lib.ListN.{length}
 use borrow.Author.Tests.{lt-ltb, le-ltb, eq-eqb}
 use Rattle.items.specs.declared.Item.{Item}
 use Rattle.items.specs.declared.Item.TheVariants.{Steps}
-use Rattle.items.specs.declared.ItemAnswer.TheVariants.{Found}
+use Rattle.std.specs.Prelude.{Some, Ok}
 use Rattle.items.specs.Items.{read_at}
 use Rattle.course.specs.declared.Run.{Run}
-use Rattle.course.specs.declared.Phase.TheVariants.{Items, Ended, Cut}
+use Rattle.course.specs.declared.Phase.{Phase}
+use Rattle.course.specs.declared.Phase.TheVariants.{Items, Ended, Cut, Refused}
 use Rattle.course.specs.Standing.{nodes_of, past, steps_item, at_end}
 use Rattle.course.specs.Wording.{event_here, is_event}
 use Rattle.course.specs.Whole.{items_from, course, and_others, steps_in}
@@ -19,7 +20,7 @@ use Rattle.course.specs.Ready.{answer_here, is_action, ready_in, ready}
 use Rattle.course.specs.Several.{AtOnce, after_steps, several_steps}
 use Rattle.course.proofs.Found.{found_moves, items_found}
 use Rattle.course.proofs.Moves.{AtItems, past-items, steps_items, nodes_most, on_quiet, on_steps_lem, on_cut, on_end}
-use Rattle.course.proofs.Several.{done-at_once, several_items, several_nodes, on_several}
+use Rattle.course.proofs.Several.{done_at_once, several_items, several_nodes, on_several}
 
 -- what is so in the loop: the run is at its items, its course is the one it had, and it has so many nodes
 pub record Way (ceiling : ℕ) (schedule : List ℕ) (nodes : ℕ) (start run : Run) : Type 0 where
@@ -63,7 +64,7 @@ way_several ceiling schedule nodes start run limit w told o =
 
 -- an item of steps
 pub way_steps : (ceiling : ℕ) (schedule : List ℕ) (nodes : ℕ) (start run : Run) (n : ℕ) → Way ceiling schedule nodes start run → nodes ≤ run.next
-    → run.left ≤ 0 → (read_at schedule run.at).answer ≡ Found (Steps n) → Way ceiling schedule nodes start (steps_item n run)
+    → run.left ≤ 0 → (read_at schedule run.at).answer ≡ Ok (Some (Steps n)) → Way ceiling schedule nodes start (steps_item n run)
 unfolding steps_item nodes_of
 way_steps ceiling schedule nodes start run n w told left found =
     let all : nodes_of run ≤ run.next = omega (arith, w.count) in
@@ -84,10 +85,10 @@ pub several_nearer : (ceiling : ℕ) (schedule : List ℕ) (nodes : ℕ) (run : 
     → AtOnce ceiling run.reached.steps run.left limit → to_go schedule nodes (several_steps limit run) < to_go schedule nodes run
 unfolding to_go several_steps after_steps
 several_nearer ceiling schedule nodes run limit most told o =
-    let d = done-at_once ceiling run.reached.steps run.left limit run.reached.state _ refl o in
+    let d = done_at_once ceiling run.reached.steps run.left limit run.reached.state _ refl o in
     omega (arith, d.some, d.most)
 
-pub steps_nearer : (schedule : List ℕ) (nodes : ℕ) (run : Run) (n : ℕ) → run.left ≤ 0 → (read_at schedule run.at).answer ≡ Found (Steps n)
+pub steps_nearer : (schedule : List ℕ) (nodes : ℕ) (run : Run) (n : ℕ) → run.left ≤ 0 → (read_at schedule run.at).answer ≡ Ok (Some (Steps n))
     → to_go schedule nodes (steps_item n run) < to_go schedule nodes run
 unfolding to_go steps_item steps_in
 steps_nearer schedule nodes run n left found =
@@ -128,3 +129,21 @@ at-items_end ceiling schedule nodes start run w told left nothing =
     let all : nodes_of run ≤ run.next = omega (arith, w.count) in
     let none : run.left ≡ 0 = omega arith in
     (sym (on_end ceiling schedule run w.going all none nothing) ∙ w.same, simp w.going.not_over)
+
+-- a run that is over, or not at its items, is ready where it stands
+pub ready_over : (schedule : List ℕ) (run : Run) → run.over ≡ true → ready schedule run ≡ true
+unfolding ready
+ready_over schedule run e = rw e refl
+
+pub ready_at_end : (schedule : List ℕ) (run : Run) → (run.phase ≡ Items → ⊥) → ready schedule run ≡ true
+unfolding ready ready_in
+ready_at_end schedule run other = by_phase run.phase run.over other
+  where
+    by_phase : (phase : Phase) (over : Bool) → (phase ≡ Items → ⊥) → (over || ready_in phase schedule run) ≡ true
+    by_phase Items over other = absurd (other refl)
+    by_phase Ended true other = refl
+    by_phase Ended false other = refl
+    by_phase Cut true other = refl
+    by_phase Cut false other = refl
+    by_phase (Refused refusal) true other = refl
+    by_phase (Refused refusal) false other = refl

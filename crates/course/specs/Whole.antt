@@ -1,10 +1,9 @@
 -- 01, "The run and its lines": the whole of a run. The items in order, the events of each step, then the locks, then the last line.
 -- Each line stands with the run before and after it; `end` is the run when all is said.
-use Rattle.std.specs.Prelude.{ℕ, zero, suc, ◌+◌, ◌-◌, cond, List, [], ◌∷◌, ltb, length}
+use Rattle.std.specs.Prelude.{ℕ, zero, suc, ◌+◌, ◌-◌, cond, List, [], ◌∷◌, ltb, length, Option, Some, None, Result, Ok, Err}
 use Rattle.items.specs.declared.Item.{Item}
 use Rattle.items.specs.declared.Item.TheVariants.{Steps, Act}
-use Rattle.items.specs.declared.ItemAnswer.{ItemAnswer}
-use Rattle.items.specs.declared.ItemAnswer.TheVariants.{NoMore, Found, LeftOver, Bad}
+use Rattle.items.specs.declared.ItemRefusal.{ItemRefusal}
 use Rattle.items.specs.Items.{read_at}
 use Rattle.wording.specs.declared.Line.{Line}
 use Rattle.course.specs.declared.Run.{Run}
@@ -68,11 +67,10 @@ items ceiling (Act action node lock ∷ rest) run =
     says (action_line action node lock run) run (action_item action node lock run) (items ceiling rest (action_item action node lock run))
 
 -- an item that was found, and the others
-unfoldable pub and_others : ItemAnswer → List Item → List Item
-and_others NoMore others = []
-and_others (Found item) others = item ∷ others
-and_others LeftOver others = []
-and_others (Bad place) others = []
+unfoldable pub and_others : Result (Option Item) ItemRefusal → List Item → List Item
+and_others (Ok None) others = []
+and_others (Ok (Some item)) others = item ∷ others
+and_others (Err refusal) others = []
 
 -- the items from a place on, until none is found: as many as so many bytes can hold
 unfoldable pub items_within : ℕ → List ℕ → ℕ → List Item
@@ -103,7 +101,7 @@ unfoldable pub course_in : Phase → ℕ → List ℕ → Run → Course
 course_in Items ceiling schedule run = working ceiling schedule run
 course_in Ended ceiling schedule run = closing_all run
 course_in Cut ceiling schedule run = closing_all run
-course_in (Refused number place) ceiling schedule run = says (refusal_line number place run) run (all_said run) (silence (all_said run))
+course_in (Refused refusal) ceiling schedule run = says (refusal_line refusal run) run (all_said run) (silence (all_said run))
 
 -- the course of a run from where it stands, over a schedule and under a ceiling of steps
 unfoldable pub course : ℕ → List ℕ → Run → Course

@@ -1,5 +1,5 @@
 -- 01, "The run and its lines": the line that a run has to say where it stands. The words of each line are in crate wording.
-use Rattle.std.specs.Prelude.{ℕ, Bool, true, false, cond, not, eqb, get_or}
+use Rattle.std.specs.Prelude.{ℕ, Bool, true, false, cond, not, eqb, get_or, Option}
 use Rattle.acts.specs.declared.Action.{Action}
 use Rattle.items.specs.Items.{place_at}
 use Rattle.turns.specs.declared.Event.{Event}
@@ -9,16 +9,18 @@ use Rattle.ring.specs.Walk.{quiet}
 use Rattle.tally.specs.Tally.{sum_of}
 use Rattle.wording.specs.declared.Line.{Line}
 use Rattle.wording.specs.Wording.{action_says, refused_says, event_says, lock_says, last_says, refusal_says}
+use Rattle.nightfile.specs.declared.FileRefusal.{FileRefusal}
+use Rattle.nightfile.specs.File.{refusal_number, refusal_place}
 use Rattle.course.specs.declared.Run.{Run}
 use Rattle.course.specs.declared.Phase.{Phase}
 use Rattle.course.specs.declared.Phase.TheVariants.{Items, Ended, Cut, Refused}
 use Rattle.course.specs.Standing.{locks_of}
 
 -- the event of the node that is told of next, and whether there is one
-unfoldable pub event_here : Run → Event
-event_here run = (get_or run.events run.next quiet).event
+unfoldable pub event_here : Run → Option Event
+event_here run = get_or run.events run.next quiet
 
-unfoldable pub is_event : Event → Bool
+unfoldable pub is_event : Option Event → Bool
 is_event event = not (eqb (event_letter event) 0)
 
 -- its line
@@ -47,7 +49,7 @@ unfoldable pub is_cut : Phase → Bool
 is_cut Items = false
 is_cut Ended = false
 is_cut Cut = true
-is_cut (Refused number place) = false
+is_cut (Refused refusal) = false
 
 -- the last line, with the sums over all locks
 unfoldable pub last_line : Run → Line
@@ -55,5 +57,5 @@ last_line run =
     last_says run.reached.steps (is_cut run.phase) (sum_of run.reached.tally.grants (locks_of run)) (sum_of run.reached.tally.failed (locks_of run))
 
 -- the line of a refused file
-unfoldable pub refusal_line : ℕ → ℕ → Run → Line
-refusal_line number place run = refusal_says run.reached.steps number place
+unfoldable pub refusal_line : FileRefusal → Run → Line
+refusal_line refusal run = refusal_says run.reached.steps (refusal_number refusal) (refusal_place refusal)

@@ -2,15 +2,14 @@
 #![tactic(auto)]
 
 ghost use Rattle.std.specs.Prelude.{◌≡◌};
-ghost use Rattle.course.specs.Standing.{beginning};
+ghost use Rattle.course.specs.Standing.{first_phase, beginning};
 
+use nightfile::FileRefusal;
 use plan::NODES;
-use ring::{Happening, State};
+use ring::State;
 use tally::Tally;
 use turns::Event;
 
-mod ahead;
-mod beginning;
 mod onward;
 
 // What the steps so far have reached: the ring's state, what is counted, and how many steps were done.
@@ -21,55 +20,58 @@ pub struct Reached {
     pub steps: u64,
 }
 
-// What a run is at: its items; its end, after all steps or cut at the ceiling; or a refused file with its number and the place of
-// its first bad item, 0 where no item is the reason.
-#[derive(Clone, Copy)]
+// What a run is at: its items; its end, after all steps or cut at the ceiling; or why its file is refused.
+#[derive(Clone, Copy, Debug, PartialEq, Eq)]
 pub enum Phase {
     Items,
     Ended,
     Cut,
-    Refused { number: u8, place: usize },
+    Refused(FileRefusal),
 }
 
 // A run under way: what it has reached, the place in the schedule, the steps left of the item before that place, the events of
-// the last step, the place of the next node to tell of (at the end: the next lock), what it is at, and whether all is said.
+// the last step, the place of the next node to tell of (at the end: the next lock), what it is at, and whether all is said. `over` stands beside the phase, since
+// each of the three ends is over in the same way and the last line is told by the phase; `next` is one field, since the definitions speak of it in every
+// phase.
 #[derive(Clone, Copy)]
 pub struct Run {
     pub reached: Reached,
     pub at: usize,
     pub left: u16,
-    pub events: [Happening; NODES],
+    pub events: [Option<Event>; NODES],
     pub next: u8,
     pub phase: Phase,
     pub over: bool,
 }
 
+// What a run is at when it starts.
+#[tactic(auto, unfolding(crate::specs::Standing::first_phase))]
+fn first_phase(answer: Result<(), FileRefusal>) -> Phase
+    ensures { result ≡ first_phase answer }
+{
+    match answer {
+        Ok(()) => Phase::Items,
+        Err(refusal) => Phase::Refused(refusal),
+    }
+}
+
 // The run of a file, accepted or refused, before its first line.
+#[tactic(auto, using(crate::proofs::Told::started_state), unfolding(crate::specs::Standing::beginning, ring::specs::Walk::quiet))]
 pub fn begin(file: &[u8]) -> Run
     ensures { result ≡ beginning file.now }
 {
-    let answer = nightfile::test_file(file);
-    let number = nightfile::file_number(answer);
-    let place = nightfile::file_place(answer);
     let plan = nightfile::read_plan(nightfile::plan_part(file));
-    let started = State::start(plan);
-    let state = started.state;
-    let tally = tally::empty_tally();
-    let events = [Happening {
-        event: Event::Nothing,
-    }; NODES];
-    let phase = beginning::first_phase(number, place);
     Run {
         reached: Reached {
-            state: state,
-            tally: tally,
+            state: State::start(plan).state,
+            tally: tally::empty_tally(),
             steps: 0,
         },
         at: 0,
         left: 0,
-        events: events,
+        events: [None; NODES],
         next: 0,
-        phase: phase,
+        phase: first_phase(nightfile::test_file(file)),
         over: false,
     }
 }

@@ -1,13 +1,14 @@
 -- The letters of a run's lines: no line bears Q, and C is borne by the last one alone, where the run was cut.
 use Prim.Native.Nat.{ℕ, ◌+◌}
 use mathlib.Core.Path.{◌≡◌, refl, sym, ap, ap₂, ◌∙◌}
-use mathlib.Core.Bool.{Bool, true, false, cond, true≢false}
+use mathlib.Core.Bool.{Bool, true, false, cond}
 use mathlib.Core.List.{List, [], ◌∷◌, ◌++◌}
 use native.Mathlib.Nat.{zero-add}
 use lib.Dec.{eqb}
-use borrow.Author.Tests.{eq-eqb, ne_eqb}
+use borrow.Author.Tests.{ne_eqb}
+use Rattle.std.specs.Prelude.{Some}
 use Rattle.linereader.specs.declared.LineKind.{LineKind}
-use Rattle.linereader.specs.declared.LineKind.TheVariants.{NoKind, Deed, Lock, Last, Refusal}
+use Rattle.linereader.specs.declared.LineKind.TheVariants.{Deed, Lock, Last}
 use Rattle.linereader.specs.Reading.{kind_of}
 use Rattle.gather.specs.Texts.{TextLine, OfKind, Deeds, LocksFrom, RunLines, IsRun}
 use Rattle.nightfile.specs.File.{file_number}
@@ -21,23 +22,13 @@ use Rattle.fleet.specs.Fleet.{lines_of_file}
 
 -- ---- kinds of lines
 
--- they are told apart by numbers
-abbrev kind_number : LineKind → ℕ
-kind_number NoKind = 0
-kind_number Deed = 1
-kind_number Lock = 2
-kind_number Last = 3
-kind_number Refusal = 4
-
--- a letter that belongs to another kind
+-- a letter that belongs to another kind, or to none
 abbrev Other : LineKind → ℕ → Type 0
-Other kind letter = eqb (kind_number kind) (kind_number (kind_of letter)) ≡ false
+Other kind letter = kind_of letter ≡ Some kind → ⊥
 
 -- is not borne by a line of this kind
 not_borne : {kind : LineKind} {l : TextLine} (letter : ℕ) → Other kind letter → OfKind kind l → eqb l.letter letter ≡ false
-not_borne {kind} {l} letter other k =
-    ne_eqb l.letter letter
-    (λ e. true≢false (sym (eq-eqb (kind_number kind) (kind_number (kind_of letter)) (ap kind_number (sym k.of_kind ∙ ap kind_of e))) ∙ other))
+not_borne {kind} {l} letter other k = ne_eqb l.letter letter (λ e. other (ap kind_of (sym e) ∙ k.of_kind))
 
 -- ---- lines before others
 
@@ -67,8 +58,8 @@ pub no_refusal : (file : List ℕ) → file_number file ≡ 0 → count_of 81 (l
 unfolding lines_of_file kind_of
 no_refusal file e =
     let r : RunOf file = run_of file e in
-    ap (count_of 81) (sym r.lines) ∙ last_only r.run 81 r.right refl refl
-    ∙ ap (λ (b : Bool). cond b 1 0 + 0) (not_borne {kind = Last} 81 refl r.right.last_right)
+    ap (count_of 81) (sym r.lines) ∙ last_only r.run 81 r.right (λ z. cc) (λ z. cc)
+    ∙ ap (λ (b : Bool). cond b 1 0 + 0) (not_borne {kind = Last} 81 (λ z. cc) r.right.last_right)
 
 cut_letter : (cut : Bool) → cond (eqb (end_letter cut) 67) 1 0 + 0 ≡ cond cut 1 0
 unfolding end_letter
@@ -79,5 +70,5 @@ pub cut_counted : (file : List ℕ) → file_number file ≡ 0 → count_of 67 (
 unfolding lines_of_file kind_of file_outcome outcome_of
 cut_counted file e =
     let r : RunOf file = run_of file e in
-    ap (count_of 67) (sym r.lines) ∙ last_only r.run 67 r.right refl refl
+    ap (count_of 67) (sym r.lines) ∙ last_only r.run 67 r.right (λ z. cc) (λ z. cc)
     ∙ ap (λ (letter : ℕ). cond (eqb letter 67) 1 0 + 0) r.letter ∙ cut_letter (is_cut (file_course night_ceiling file).end.phase)

@@ -6,6 +6,7 @@ use Rattle.ownsheet.specs.Numbers.{night_ceiling}
 use Rattle.verdict.specs.declared.Verdict.TheVariants.{Incomplete, Refused, Cut, Good}
 use Rattle.verdict.specs.Verdicts.{verdict_number, verdict_of}
 use Rattle.verdict.specs.Lines.{count_of, worst_line}
+use Rattle.morning.specs.declared.Entry.{Entry}
 use Rattle.morning.specs.Counts.{all_of}
 use Rattle.morning.specs.Theorems.{Schedules, night_after}
 use Rattle.fleet.specs.Fleet.{NightFile, lines_of_file, schedules_of, Named, files_with}
@@ -59,10 +60,10 @@ abbrev pub NightFilesAreSchedules : Type 0
 NightFilesAreSchedules = (files : List NightFile) → Named files → Schedules (schedules_of files)
 
 -- the report of a night's files, with whatever room: each file is counted by the verdict on its lines, every file once, and none is incomplete
-pub record FleetTold (rows names : List ℕ) (files : List NightFile) : Type 0 where
+pub record FleetTold (rows : List Entry) (names : List ℕ) (files : List NightFile) : Type 0 where
   pub counts : (number : ℕ) → number < 7 → get_or (night_after rows names (schedules_of files)).counts number 0 ≡ files_with number files
   pub all : all_of (night_after rows names (schedules_of files)).counts ≡ length files
   pub none_incomplete : files_with (verdict_number Incomplete) files ≡ 0
 
 abbrev pub TheFleetIsTold : Type 0
-TheFleetIsTold = (rows names : List ℕ) (files : List NightFile) → Named files → length files < 2 ^ 64 → FleetTold rows names files
+TheFleetIsTold = (rows : List Entry) (names : List ℕ) (files : List NightFile) → Named files → length files < 2 ^ 64 → FleetTold rows names files

@@ -9,8 +9,9 @@ use lib.ListN.{get_or}
 use lib.Seq.{get_or-take}
 use borrow.Author.Tests.{lt-ltb, eq-eqb}
 use Rattle.lists.proofs.Tests.{and_both}
+use Rattle.std.specs.Prelude.{Option, Some, None, is_some, unwrap_or}
 use Rattle.linereader.specs.declared.LineKind.{LineKind}
-use Rattle.linereader.specs.declared.LineKind.TheVariants.{NoKind, Deed, Lock, Last, Refusal}
+use Rattle.linereader.specs.declared.LineKind.TheVariants.{Deed, Lock, Last, Refusal}
 use Rattle.linereader.specs.declared.Part.{Part}
 use Rattle.linereader.specs.declared.Part.TheVariants.{Steps, Letter, Space, Numbers, Whole, Wrong}
 use Rattle.linereader.specs.declared.Scan.{Scan}
@@ -53,21 +54,21 @@ pub data OneByte (s : Scan) (byte : ℕ) (g : Gather) : Type 0 where
   bad : (scan_byte s byte).part ≡ Wrong → after_byte (inside_line s g) byte ≡ faulty NoLine g → OneByte s byte g
 
 -- what a line does asks nothing of the scan before it
-line_same : (kind : LineKind) (t s : Scan) (g : Gather) → after_line kind t (inside_line s g) ≡ after_line kind t g
+line_same : (kind : Option LineKind) (t s : Scan) (g : Gather) → after_line kind t (inside_line s g) ≡ after_line kind t g
 unfolding after_line inside_line faulty deed_read lock_read last_read refusal_read
-line_same NoKind t s g = refl
-line_same Deed t s g = refl
-line_same Lock t s g = refl
-line_same Last t s g = refl
-line_same Refusal t s g = refl
+line_same None t s g = refl
+line_same (Some Deed) t s g = refl
+line_same (Some Lock) t s g = refl
+line_same (Some Last) t s g = refl
+line_same (Some Refusal) t s g = refl
 
-rows_same : (kind : LineKind) (t s : Scan) (g : Gather) (rows : List ℕ) → rows_after_line kind t (inside_line s g) rows ≡ rows_after_line kind t g rows
+rows_same : (kind : Option LineKind) (t s : Scan) (g : Gather) (rows : List ℕ) → rows_after_line kind t (inside_line s g) rows ≡ rows_after_line kind t g rows
 unfolding rows_after_line inside_line
-rows_same NoKind t s g rows = refl
-rows_same Deed t s g rows = refl
-rows_same Lock t s g rows = refl
-rows_same Last t s g rows = refl
-rows_same Refusal t s g rows = refl
+rows_same None t s g rows = refl
+rows_same (Some Deed) t s g rows = refl
+rows_same (Some Lock) t s g rows = refl
+rows_same (Some Last) t s g rows = refl
+rows_same (Some Refusal) t s g rows = refl
 
 pub one_byte : (s : Scan) (byte : ℕ) (g : Gather) → is_fine g.fault ≡ true → OneByte s byte g
 unfolding after_byte rows_after_byte after_part rows_after_part inside_line faulty
@@ -109,7 +110,7 @@ fault_stays (byte ∷ rest) g f =
     ap (λ (b : Bool). after_all (cond b (after_part (scan_byte g.scan byte).part (scan_byte g.scan byte) g) g) rest) f ∙ fault_stays rest g f
 
 -- a whole scan does what its line does
-abbrev AsLine : Gather → List ℕ → Scan → Gather → Type 0
+abbrev pub AsLine : Gather → List ℕ → Scan → Gather → Type 0
 AsLine start text w g = Does start text (after_line (kind_of w.letter) w g) (rows_after_line (kind_of w.letter) w g)
 
 -- nothing comes behind a whole line
@@ -144,7 +145,7 @@ pub record AtLine (g : Gather) : Type 0 where
   pub start : g.scan ≡ start_scan
   pub fine : is_fine g.fault ≡ true
 
-written-line : (l : TextLine) (g : Gather) → AtLine g → IsLine l.steps l.letter l.numbers
+pub written-line : (l : TextLine) (g : Gather) → AtLine g → IsLine l.steps l.letter l.numbers
     → AsLine g (line_text l) (scan_all start_scan (line_text l)) g
 unfolding inside_line start_scan line_text
 written-line l g at is =
@@ -157,24 +158,24 @@ unfolding line_text
 scan_of l is = written_is_read l.steps l.letter l.numbers is
 
 pub of_kind_line : (kind : LineKind) (l : TextLine) (g : Gather) → AtLine g → OfKind kind l
-    → Does g (line_text l) (after_line kind (scan_all start_scan (line_text l)) g) (rows_after_line kind (scan_all start_scan (line_text l)) g)
+    → Does g (line_text l) (after_line (Some kind) (scan_all start_scan (line_text l)) g) (rows_after_line (Some kind) (scan_all start_scan (line_text l)) g)
 of_kind_line kind l g at k =
     let w : Scan = scan_all start_scan (line_text l) in
-    subst (λ (k : LineKind). Does g (line_text l) (after_line k w g) (rows_after_line k w g)) (ap kind_of (scan_of l k.is_line).letter_read ∙ k.of_kind)
+    subst (λ (k : Option LineKind). Does g (line_text l) (after_line k w g) (rows_after_line k w g)) (ap kind_of (scan_of l k.is_line).letter_read ∙ k.of_kind)
     (written-line l g at k.is_line)
 
-pub deed_line : (l : TextLine) (g : Gather) → AtLine g → OfKind Deed l → g.locks ≡ 0 → Does g (line_text l) (deed_read g) (λ rows. rows)
+pub deed_line : (l : TextLine) (g : Gather) → AtLine g → OfKind Deed l → unwrap_or g.run 0 ≡ 0 → Does g (line_text l) (deed_read g) (λ rows. rows)
 unfolding after_line rows_after_line
 deed_line l g at k none =
     let d = of_kind_line Deed l g at k in
-    record { stands = d.stands ∙ ap (λ (b : Bool). cond b (deed_read g) (faulty DeedBehindLock g)) (eq-eqb g.locks 0 none); gathered = d.gathered }
+    record { stands = d.stands ∙ ap (λ (b : Bool). cond b (deed_read g) (faulty DeedBehindLock g)) (eq-eqb (unwrap_or g.run 0) 0 none); gathered = d.gathered }
 
 -- an H line has four numbers
-four_numbers : (letter : ℕ) → kind_of letter ≡ Lock → numbers_behind letter ≡ 4
+four_numbers : (letter : ℕ) → kind_of letter ≡ Some Lock → numbers_behind letter ≡ 4
 unfolding kind_of numbers_behind
 four_numbers letter = go (eqb letter 72) (eqb letter 69) (eqb letter 67) (eqb letter 81) (is_deed letter)
   where
-    go : (a b c d e : Bool) → cond a Lock (cond b Last (cond c Last (cond d Refusal (cond e Deed NoKind)))) ≡ Lock → ◌≡◌ {A = ℕ} (cond a 4 2) 4
+    go : (a b c d e : Bool) → cond a (Some Lock) (cond b (Some Last) (cond c (Some Last) (cond d (Some Refusal) (cond e (Some Deed) None)))) ≡ Some Lock → ◌≡◌ {A = ℕ} (cond a 4 2) 4
     go true b c d e p = refl
     go false true c d e p = cc
     go false false true d e p = cc
@@ -196,31 +197,31 @@ lock_rows_same : (ns ms : List ℕ) (run lock : ℕ) (rows : List ℕ) → ((i :
 unfolding lock_rows
 lock_rows_same ns ms run lock rows e = rw (e 1 (lit< tt), e 2 (lit< tt), e 3 (lit< tt))
 
-pub lock-line : (l : TextLine) (g : Gather) → AtLine g → OfKind Lock l → get_or l.numbers 0 0 ≡ g.locks → g.locks < 2 ^ 64 - 1
-    → Does g (line_text l) (lock_read g) (lock_rows l.numbers g.runs g.locks)
+pub lock-line : (l : TextLine) (g : Gather) → AtLine g → OfKind Lock l → get_or l.numbers 0 0 ≡ unwrap_or g.run 0 → unwrap_or g.run 0 < 2 ^ 64 - 1
+    → Does g (line_text l) (lock_read g) (lock_rows l.numbers g.runs (unwrap_or g.run 0))
 unfolding after_line rows_after_line is_next_lock first_of
 lock-line l g at k e small =
     let d = of_kind_line Lock l g at k in
     let w : Scan = scan_all start_scan (line_text l) in
-    let first : get_or w.numbers 0 0 ≡ g.locks = lock_number l k 0 (lit< tt) ∙ e in
-    let next : is_next_lock (first_of w) g.locks ≡ true =
-    and_both (eq-eqb (get_or w.numbers 0 0) g.locks first) (lt-ltb (get_or w.numbers 0 0) (2 ^ 64 - 1) (omega (arith, first, small))) in
+    let first : get_or w.numbers 0 0 ≡ unwrap_or g.run 0 = lock_number l k 0 (lit< tt) ∙ e in
+    let next : is_next_lock (first_of w) (unwrap_or g.run 0) ≡ true =
+    and_both (eq-eqb (get_or w.numbers 0 0) (unwrap_or g.run 0) first) (lt-ltb (get_or w.numbers 0 0) (2 ^ 64 - 1) (omega (arith, first, small))) in
     record {
       stands = d.stands ∙ ap (λ (b : Bool). cond b (lock_read g) (faulty LockOutOfOrder g)) next;
-      gathered = λ rows. d.gathered rows ∙ ap (λ (b : Bool). cond b (lock_rows w.numbers g.runs g.locks rows) rows) next
-          ∙ lock_rows_same w.numbers l.numbers g.runs g.locks rows (lock_number l k);
+      gathered = λ rows. d.gathered rows ∙ ap (λ (b : Bool). cond b (lock_rows w.numbers g.runs (unwrap_or g.run 0) rows) rows) next
+          ∙ lock_rows_same w.numbers l.numbers g.runs (unwrap_or g.run 0) rows (lock_number l k);
     }
 
-pub last_line : (l : TextLine) (g : Gather) → AtLine g → OfKind Last l → Does g (line_text l) (last_read g) (last_rows l.steps g.runs g.locks)
+pub last_line : (l : TextLine) (g : Gather) → AtLine g → OfKind Last l → Does g (line_text l) (last_read g) (last_rows l.steps g.runs (unwrap_or g.run 0))
 unfolding after_line rows_after_line
 last_line l g at k =
     let d = of_kind_line Last l g at k in
     record {
       stands = d.stands;
-      gathered = λ rows. d.gathered rows ∙ ap (λ (steps : ℕ). last_rows steps g.runs g.locks rows) (scan_of l k.is_line).steps_read;
+      gathered = λ rows. d.gathered rows ∙ ap (λ (steps : ℕ). last_rows steps g.runs (unwrap_or g.run 0) rows) (scan_of l k.is_line).steps_read;
     }
 
-pub refusal-line : (l : TextLine) (g : Gather) → AtLine g → OfKind Refusal l → g.inside ≡ false → Does g (line_text l) (refusal_read g) (λ rows. rows)
+pub refusal-line : (l : TextLine) (g : Gather) → AtLine g → OfKind Refusal l → is_some g.run ≡ false → Does g (line_text l) (refusal_read g) (λ rows. rows)
 unfolding after_line rows_after_line
 refusal-line l g at k out =
     let d = of_kind_line Refusal l g at k in

@@ -1,6 +1,6 @@
 -- What a text of runs is, line by line: a run is lines of actions and events, then its H lines from lock 0 up, then its E or C line; a refused run
 -- is one Q line; the lines of any number of runs stand one after the other.
-use Rattle.std.specs.Prelude.{ℕ, ◌+◌, ◌-◌, ◌^◌, ◌<◌, min, ◌≡◌, List, [], ◌∷◌, ◌++◌, length, get_or}
+use Rattle.std.specs.Prelude.{ℕ, ◌+◌, ◌-◌, ◌^◌, ◌<◌, min, ◌≡◌, List, [], ◌∷◌, ◌++◌, Some, length, get_or}
 use Rattle.lines.specs.Line.{line}
 use Rattle.linereader.specs.declared.LineKind.{LineKind}
 use Rattle.linereader.specs.declared.LineKind.TheVariants.{Deed, Lock, Last, Refusal}
@@ -28,7 +28,7 @@ lines_text (l ∷ rest) = line_text l ++ lines_text rest
 -- a line of the night program of this kind
 pub record OfKind (kind : LineKind) (l : TextLine) : Type 0 where
   pub is_line : IsLine l.steps l.letter l.numbers
-  pub of_kind : kind_of l.letter ≡ kind
+  pub of_kind : kind_of l.letter ≡ Some kind
 
 -- lines of actions and events
 pub data Deeds : List TextLine → Type 0 where

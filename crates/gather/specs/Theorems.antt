@@ -1,8 +1,7 @@
 -- What proofs/ proves of the gathering, as sentences: in whatever pieces a text comes the same is gathered; a text of runs is gathered into their rows;
 -- and nothing else is taken for a text of runs.
-use Rattle.std.specs.Prelude.{ℕ, ◌+◌, ◌*◌, ◌^◌, ◌<◌, min, ◌≡◌, true, false, cond, List, [], ◌∷◌, ◌++◌, eqb, length, get_or}
+use Rattle.std.specs.Prelude.{ℕ, ◌+◌, ◌*◌, ◌^◌, ◌<◌, min, ◌≡◌, true, false, cond, List, [], ◌∷◌, ◌++◌, None, eqb, length, get_or}
 use Rattle.sums.specs.Sheet.{run_width}
-use Rattle.gather.specs.declared.Fault.TheVariants.{Fine}
 use Rattle.gather.specs.declared.Gather.{Gather}
 use Rattle.gather.specs.Gathering.{rows_kept, start_gather, is_fine, after_all, rows_after_all, fault_of}
 use Rattle.gather.specs.Texts.{Piece, Pieces, pieces_text, runs_in, refused_in, no_run, RowOf}
@@ -17,7 +16,7 @@ ThePiecesDoNotMatter = (state : Gather) (piece rest rows : List ℕ) → SameInP
 
 -- a text of runs has no fault, and each of its runs has its row, up to the last row that is kept
 pub record GatheredFrom (pieces : List Piece) (rows : List ℕ) : Type 0 where
-  pub fine : fault_of (after_all start_gather (pieces_text pieces)) ≡ Fine
+  pub fine : fault_of (after_all start_gather (pieces_text pieces)) ≡ None
   pub runs : (after_all start_gather (pieces_text pieces)).runs ≡ min (length (runs_in pieces)) rows_kept
   pub refused : refused_in pieces < 2 ^ 64 → (after_all start_gather (pieces_text pieces)).refused ≡ refused_in pieces
   pub long : length (rows_after_all start_gather (pieces_text pieces) rows) ≡ length rows
@@ -34,7 +33,7 @@ pub record TextOfRuns (text : List ℕ) : Type 0 where
   pub same : text ≡ pieces_text pieces
 
 abbrev pub NothingElseIsFine : Type 0
-NothingElseIsFine = (text : List ℕ) → fault_of (after_all start_gather text) ≡ Fine → TextOfRuns text
+NothingElseIsFine = (text : List ℕ) → fault_of (after_all start_gather text) ≡ None → TextOfRuns text
 
 -- the lines are counted by their newlines. So where the first fault is met, the line that is named is one
 -- more than the newlines before the byte at which it is met; and where the text ends too early, one more than all its newlines

@@ -1,27 +1,28 @@
 // The runs of a text, gathered into rows of numbers: the text has the lines of any number of runs, one after the other, as the night program
 // writes them, and comes in pieces of any size. The memory is fixed: what is read of the line at hand, some counts, and the rows of 401 runs in a
-// lent slice, into which a run's numbers are put line by line.
-#![tactic(auto)]
+// lent slice, into which a run's numbers are put line by line. The slice stays one of numbers, since this layout is what callers are promised
+// (docs/FORMAT.md).
+#![tactic(auto, unfolding(crate::specs::Gathering::start_gather, crate::specs::Gathering::is_fine, crate::specs::Gathering::after_byte, crate::specs::Gathering::rows_after_byte, crate::specs::Gathering::is_steps, crate::specs::Gathering::at_line_start, crate::specs::Gathering::end_fault, crate::specs::Gathering::fault_of, crate::specs::Gathering::line_number, crate::specs::Gathering::whole_rows))]
 
 mod placing;
 mod standing;
 
-ghost use Rattle.std.specs.Prelude.{min, ◌≡◌, cond, ltb};
+ghost use Rattle.std.specs.Prelude.{◌≡◌, is_some};
 ghost use Rattle.sums.specs.Sheet.{sheet_told, making};
-ghost use Rattle.gather.specs.Gathering.{start_gather, is_fine, after_byte, rows_after_byte, after_all, rows_after_all, is_steps, at_line_start, end_fault, fault_of, line_number, whole_rows};
+ghost use Rattle.gather.specs.Gathering.{start_gather, is_fine, after_byte, rows_after_byte, after_all, rows_after_all, at_line_start, fault_of, line_number, whole_rows};
 
 use linereader::{Part, Scan};
 pub use standing::{after_part, more};
-use sums::{MadeSheet, RUN_WIDTH};
+use std::fmt;
+use sums::{RUN_WIDTH, Sheet, SheetRefusal};
 
 // One row more than a sheet takes.
 pub const ROWS_KEPT: u64 = 401;
 
-// What is wrong in a text that is no run: nothing so far; no line of the night program; an action or an event behind an H line; an H line that
-// is not the next lock's; a Q line inside a run; the last line without a newline; a run without its last line.
-#[derive(Clone, Copy)]
+// What is wrong in a text that is no run: no line of the night program; an action or an event behind an H line; an H line that is not the next
+// lock's; a Q line inside a run; the last line without a newline; a run without its last line.
+#[derive(Clone, Copy, Debug, PartialEq, Eq)]
 pub enum Fault {
-    Fine,
     NoLine,
     DeedBehindLock,
     LockOutOfOrder,
@@ -30,48 +31,50 @@ pub enum Fault {
     NoLastLine,
 }
 
-// How the gathering stands: what is read of the line at hand, the lines before it, whether a run has begun and the H lines that it has had,
-// the whole runs (at most 401), the refused ones, and the first fault.
-#[derive(Clone, Copy)]
+impl fmt::Display for Fault {
+    fn fmt<W: fmt::Write>(&self, f: &mut fmt::Formatter<W>) -> fmt::Result {
+        f.write_str(match self {
+            Fault::NoLine => "not a line that the night program writes",
+            Fault::DeedBehindLock => "an action or an event behind an H line",
+            Fault::LockOutOfOrder => "an H line that is not the next lock's",
+            Fault::RefusalInside => "a Q line inside a run",
+            Fault::NoNewline => "the text ends inside a line",
+            Fault::NoLastLine => "the text ends inside a run, before its E or C line",
+        })
+    }
+}
+
+// How the gathering stands: what is read of the line at hand, the lines before it, the H lines of the run at hand if one has begun, the whole
+// runs (at most 401), the refused ones, and the first fault.
+#[derive(Clone, Copy, Debug, PartialEq, Eq)]
 pub struct Gather {
     pub scan: Scan,
     pub lines: u64,
-    pub inside: bool,
-    pub locks: u64,
+    pub run: Option<u64>,
     pub runs: u64,
     pub refused: u64,
-    pub fault: Fault,
+    pub fault: Option<Fault>,
 }
 
 // At the start of the text.
 pub fn start_gather() -> Gather
     ensures { result ≡ start_gather }
 {
-    let scan = linereader::start_scan();
     Gather {
-        scan: scan,
+        scan: linereader::start_scan(),
         lines: 0,
-        inside: false,
-        locks: 0,
+        run: None,
         runs: 0,
         refused: 0,
-        fault: Fault::Fine,
+        fault: None,
     }
 }
 
-// Whether nothing is wrong.
-pub fn is_fine(fault: Fault) -> bool
+// Whether nothing is wrong. It stays beside `is_none`, since a statement of settled names it.
+pub fn is_fine(fault: Option<Fault>) -> bool
     ensures { result ≡ is_fine fault }
 {
-    match fault {
-        Fault::Fine => true,
-        Fault::NoLine => false,
-        Fault::DeedBehindLock => false,
-        Fault::LockOutOfOrder => false,
-        Fault::RefusalInside => false,
-        Fault::NoNewline => false,
-        Fault::NoLastLine => false,
-    }
+    fault.is_none()
 }
 
 // One byte more of the text.
@@ -79,113 +82,61 @@ fn gather_byte(state: Gather, byte: u8, rows: &mut [u64]) -> Gather
     ensures value { result ≡ after_byte state byte }
     ensures rows_after { rows.new ≡ rows_after_byte state byte rows.old }
 {
-    let fault = state.fault;
-    if is_fine(fault) {
-        let before = state.scan;
-        let scan = linereader::scan_byte(before, byte);
-        let part = scan.part;
-        placing::put_part(part, scan, state, rows);
-        return standing::after_part(part, scan, state);
+    if state.fault.is_some() {
+        return state;
     }
-    state
+    let scan = linereader::scan_byte(state.scan, byte);
+    placing::put_part(scan, state, rows);
+    standing::after_part(scan.part, scan, state)
 }
 
-// A piece of the text. The promise is about every piece in every state, so in whatever pieces a text comes, the same is gathered.
+// A piece of the text. The promise is about every piece in every state, so in whatever pieces a text comes, the same is gathered. The state goes by value
+// and the rows beside it, since the promise tells each by itself.
 pub fn gather_text(start: Gather, text: &[u8], rows: &mut [u64]) -> Gather
     ensures value { result ≡ after_all start text.now }
     ensures rows_after { rows.new ≡ rows_after_all start text.now rows.old }
 {
     let mut state = start;
-    let mut i = 0;
-    while i < text.len() {
-        state = gather_byte(state, text[i], rows);
-        i += 1;
+    for &byte in text {
+        state = gather_byte(state, byte, rows);
     }
     state
 }
 
-// Whether the steps of a line come next.
-fn is_steps(part: Part) -> bool
-    ensures { result ≡ is_steps part }
-{
-    match part {
-        Part::Steps => true,
-        Part::Letter => false,
-        Part::Space => false,
-        Part::Numbers => false,
-        Part::Whole => false,
-        Part::Wrong => false,
-    }
-}
-
 // Whether the reading is at the start of a line.
-fn at_line_start(part: Part, begun: bool) -> bool
-    ensures { result ≡ at_line_start part begun }
+fn at_line_start(scan: Scan) -> bool
+    ensures { result ≡ at_line_start scan.part (is_some scan.number) }
 {
-    if is_steps(part) {
-        return !begun;
-    }
-    false
-}
-
-// What is wrong with a text that ends here.
-fn end_fault(start: bool, inside: bool) -> Fault
-    ensures { result ≡ end_fault start inside }
-{
-    if start {
-        if inside {
-            return Fault::NoLastLine;
-        }
-        return Fault::Fine;
-    }
-    Fault::NoNewline
+    matches!(scan.part, Part::Steps) && scan.number.is_none()
 }
 
 // What is wrong with the whole text.
-pub fn fault_of(state: Gather) -> Fault
+pub fn fault_of(state: Gather) -> Option<Fault>
     ensures { result ≡ fault_of state }
 {
-    let fault = state.fault;
-    if is_fine(fault) {
-        let scan = state.scan;
-        let part = scan.part;
-        return end_fault(at_line_start(part, scan.begun), state.inside);
+    if state.fault.is_some() {
+        return state.fault;
     }
-    fault
+    if !at_line_start(state.scan) {
+        return Some(Fault::NoNewline);
+    }
+    if state.run.is_some() {
+        return Some(Fault::NoLastLine);
+    }
+    None
 }
 
 // The line that the reading is at, by its number from 1.
 pub fn line_number(state: Gather) -> u64
     ensures { result ≡ line_number state }
 {
-    standing::more(state.lines)
+    more(state.lines)
 }
 
-// The smaller of two numbers.
-fn least(one: usize, other: usize) -> usize
-    ensures { result ≡ min one other }
-{
-    if one < other {
-        return one;
-    }
-    other
-}
-
-// How many runs have a row.
-fn rows_of(whole: u64) -> u64
-    ensures { result ≡ cond (ltb whole 401) whole 401 }
-{
-    if whole < ROWS_KEPT {
-        return whole;
-    }
-    ROWS_KEPT
-}
-
-// The sheet of the whole runs.
-pub fn sheet_of(state: Gather, rows: &[u64]) -> MadeSheet
+// The sheet of the whole runs, or why there is none.
+pub fn sheet_of(state: Gather, rows: &[u64]) -> Result<Sheet, SheetRefusal>
     ensures { sheet_told result ≡ making (whole_rows state rows.now) }
 {
-    let kept = rows_of(state.runs) as usize * RUN_WIDTH;
-    let end = least(kept, rows.len());
-    sums::make_sheet(&rows[..end])
+    let kept = state.runs.min(ROWS_KEPT) as usize * RUN_WIDTH;
+    sums::make_sheet(&rows[..kept.min(rows.len())])
 }

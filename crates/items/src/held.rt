@@ -1,5 +1,4 @@
-// The item reader that holds the schedule's bytes and the place reached. Each function takes it apart and leaves the work to
-// one of `lent`.
+// The item reader that holds the schedule's bytes and the place reached.
 ghost use Rattle.std.specs.Prelude.{◌≡◌};
 ghost use Rattle.items.specs.Items.{read_at};
 
@@ -24,10 +23,9 @@ impl<'a> Reader<'a> {
     pub fn moved_on(self) -> Reader<'a>
         ensures { (result.schedule ≡ self.entry.schedule) × (result.at ≡ (read_at self.entry.schedule.now self.entry.at).at) }
     {
-        let next = crate::lent::place_after(self.schedule, self.at);
         Reader {
-            schedule: self.schedule,
-            at: next,
+            at: self.read().at,
+            ..self
         }
     }
 }

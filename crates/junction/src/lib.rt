@@ -1,16 +1,16 @@
 // One junction: what it is, what it does outside and in a local tour with the two cars that arrive, and what 13 says of it.
 #![tactic(auto)]
 
-ghost use Rattle.std.specs.Prelude.{◌≡◌, not, ◌&&◌};
+ghost use Rattle.std.specs.Prelude.{◌≡◌};
 ghost use Rattle.tours.specs.Sentences.{sentence_number};
-ghost use Rattle.junction.specs.Turn.{failing, junction_rule, junction_sentence, shadow, joins, junction_apply, train_after, trained, junction_turn};
+ghost use Rattle.junction.specs.Turn.{failing, junction_rule, junction_sentence, shadow, joins, junction_apply, trained, junction_turn};
 ghost use Rattle.junction.specs.Sound.{junction_sound};
 
-use cars::Car;
-use tours::JunctionRule;
+use cars::{Car, Limits};
+use tours::{JunctionRule, Span};
 
 // The car to the main ring, the car to the subring, the subring train flag, the local-tour flag, the lock word.
-#[derive(Clone, Copy)]
+#[derive(Clone, Copy, Debug, PartialEq, Eq, Hash)]
 pub struct Junction {
     pub main: Car,
     pub subring: Car,
@@ -19,156 +19,126 @@ pub struct Junction {
     pub word: u64,
 }
 
+// What a junction meets in a step: whether it stands on another's subring (`inner`), the nodes within it, whether one of them wants a train,
+// the arrival on the main side and the car out of the subring.
+#[derive(Clone, Copy, Debug, PartialEq, Eq)]
+pub struct Passage {
+    pub inner: bool,
+    pub span: Span,
+    pub wants: bool,
+    pub arrival: Car,
+    pub out: Car,
+}
+
 // What goes to the subring as shadow.
+#[tactic(auto, unfolding(crate::specs::Turn::shadow))]
 fn shadow(arrival: Car) -> Car
     ensures { result ≡ shadow arrival }
 {
     match arrival {
-        Car::Idle => arrival,
         Car::Token => Car::Idle,
-        Car::Null => arrival,
-        Car::Reqp(tag) => arrival,
-        Car::Failp(tag) => arrival,
-        Car::Dov(tag) => arrival,
-        Car::Gotp(notice) => arrival,
-        Car::Didv(notice) => arrival,
+        _ => arrival,
     }
-}
-
-fn joins(main: Car, subring: Car, train: bool, tour: bool, word: u64) -> Junction
-    ensures { result ≡ joins main subring train tour word }
-{
-    Junction {
-        main: main,
-        subring: subring,
-        train: train,
-        tour: tour,
-        word: word,
-    }
-}
-
-// Whether a junction is an inner one and its train flag is clear: what goes along its ring is on no train.
-fn off_train(inner: bool, train: bool) -> bool
-    ensures { result ≡ (inner && not train) }
-{
-    if inner {
-        return !train;
-    }
-    false
-}
-
-// The train flag after a turn in which `main` was sent along the ring: an inner junction's by its flag `old` before, any other's as the
-// sentence leaves it, `new`.
-fn train_after(inner: bool, main: Car, old: bool, new: bool) -> bool
-    ensures { result ≡ train_after inner main old new }
-{
-    if inner {
-        return cars::flag_after(main, old);
-    }
-    new
 }
 
 impl Junction {
-    // The locks for which it fails a reqp.
+    // The locks for which it fails a reqp: an inner junction whose train flag is clear fails none.
+    #[tactic(auto, unfolding(crate::specs::Turn::failing))]
     fn failing(self, inner: bool) -> u64
         ensures { result ≡ failing inner self }
     {
-        if off_train(inner, self.train) {
-            return 0;
-        }
-        self.word
+        if inner && !self.train { 0 } else { self.word }
     }
 
-    // Which sentence applies. `inner`: the junction stands on another's subring. The nodes within it are numbered from `low` + 1 to `high`;
-    // `wants`: one of them wants a train.
-    pub fn rule(
-        self,
-        inner: bool,
-        low: u8,
-        high: u8,
-        wants: bool,
-        arrival: Car,
-        out: Car,
-    ) -> JunctionRule
-        ensures { (result ≡ junction_rule inner low high wants arrival out self) × (sentence_number result ≡ junction_sentence inner low high wants arrival out self) }
+    // Which sentence applies.
+    #[tactic(auto, unfolding(crate::specs::Turn::junction_rule, crate::specs::Turn::junction_sentence))]
+    pub fn rule(self, passage: Passage) -> JunctionRule
+        ensures { (result ≡ junction_rule passage.inner passage.span.low passage.span.high passage.wants passage.arrival passage.out self) × (sentence_number result ≡ junction_sentence passage.inner passage.span.low passage.span.high passage.wants passage.arrival passage.out self) }
     {
         if self.tour {
-            return tours::in_tour(self.train, low, high, out);
+            tours::in_tour(self.train, passage.span, passage.out)
+        } else {
+            tours::outside(self.failing(passage.inner), passage.wants, passage.arrival)
         }
-        tours::outside(self.failing(inner), wants, arrival)
+    }
+
+    // The junction with these cars to the main ring and to the subring.
+    #[tactic(auto, unfolding(crate::specs::Turn::joins))]
+    fn sends(self, main: Car, subring: Car) -> Junction
+        ensures { result ≡ joins main subring self.train self.tour self.word }
+    {
+        Junction {
+            main,
+            subring,
+            ..self
+        }
     }
 
     // The junction after a rule: `arrival` on the main side, `out` from the subring.
+    #[tactic(auto, unfolding(crate::specs::Turn::junction_apply, crate::specs::Turn::joins))]
     fn apply(self, arrival: Car, out: Car, rule: JunctionRule) -> Junction
         ensures { result ≡ junction_apply arrival out self rule }
     {
-        let train = self.train;
-        let tour = self.tour;
-        let word = self.word;
         match rule {
-            JunctionRule::GoesOn => joins(arrival, shadow(arrival), train, tour, word),
-            JunctionRule::FailsReqp(tag) => joins(Car::Failp(tag), arrival, train, tour, word),
-            JunctionRule::Begins => joins(Car::Idle, Car::Token, train, true, word),
-            JunctionRule::Drops => joins(Car::Idle, arrival, train, tour, word),
-            JunctionRule::TokenOut => joins(Car::Token, arrival, true, tour, word),
-            JunctionRule::CarOut => joins(out, arrival, train, tour, word),
-            JunctionRule::SetsBit(lock) => joins(
-                out,
-                arrival,
-                train,
-                tour,
-                words::with_lock(word, lock),
-            ),
-            JunctionRule::ClearsBit(lock) => joins(
-                out,
-                arrival,
-                train,
-                tour,
-                words::without_lock(word, lock),
-            ),
-            JunctionRule::Ends => joins(Car::Idle, arrival, false, false, word),
+            JunctionRule::GoesOn => self.sends(arrival, shadow(arrival)),
+            JunctionRule::FailsReqp(tag) => self.sends(Car::Failp(tag), arrival),
+            JunctionRule::Begins => Junction {
+                tour: true,
+                ..self.sends(Car::Idle, Car::Token)
+            },
+            JunctionRule::Drops => self.sends(Car::Idle, arrival),
+            JunctionRule::TokenOut => Junction {
+                train: true,
+                ..self.sends(Car::Token, arrival)
+            },
+            JunctionRule::CarOut => self.sends(out, arrival),
+            JunctionRule::SetsBit(lock) => Junction {
+                word: words::with_lock(self.word, lock),
+                ..self.sends(out, arrival)
+            },
+            JunctionRule::ClearsBit(lock) => Junction {
+                word: words::without_lock(self.word, lock),
+                ..self.sends(out, arrival)
+            },
+            JunctionRule::Ends => Junction {
+                train: false,
+                tour: false,
+                ..self.sends(Car::Idle, arrival)
+            },
         }
     }
 
-    // The junction with the train flag that it has after the turn.
+    // The junction with the train flag that it has after a turn: an inner junction's by its flag `old` before the turn and the car it sent.
+    #[tactic(auto, unfolding(crate::specs::Turn::trained, crate::specs::Turn::train_after, crate::specs::Turn::joins))]
     fn trained(self, inner: bool, old: bool) -> Junction
         ensures { result ≡ trained inner old self }
     {
-        let main = self.main;
-        let subring = self.subring;
-        let train = train_after(inner, main, old, self.train);
-        joins(main, subring, train, self.tour, self.word)
+        if inner {
+            Junction {
+                train: cars::flag_after(self.main, old),
+                ..self
+            }
+        } else {
+            self
+        }
     }
 
     // The junction's turn in a step, by the cars that were sent before it.
-    pub fn turn(
-        self,
-        inner: bool,
-        low: u8,
-        high: u8,
-        wants: bool,
-        arrival: Car,
-        out: Car,
-    ) -> Junction
-        ensures { result ≡ junction_turn inner low high wants arrival out self }
+    #[tactic(auto, unfolding(crate::specs::Turn::junction_turn))]
+    pub fn turn(self, passage: Passage) -> Junction
+        ensures { result ≡ junction_turn passage.inner passage.span.low passage.span.high passage.wants passage.arrival passage.out self }
     {
-        let rule = self.rule(inner, low, high, wants, arrival, out);
-        let next = self.apply(arrival, out, rule);
-        next.trained(inner, self.train)
+        self.apply(passage.arrival, passage.out, self.rule(passage))
+            .trained(passage.inner, self.train)
     }
 
     // Whether nothing of the junction is what 13 refuses.
-    pub fn sound(self, rules: u8, nodes: u8, locks: u8) -> bool
-        ensures { result ≡ junction_sound rules nodes locks self }
+    #[tactic(auto, unfolding(crate::specs::Sound::junction_sound))]
+    pub fn sound(self, limits: Limits) -> bool
+        ensures { result ≡ junction_sound limits.rules limits.nodes limits.locks self }
     {
-        let main = self.main;
-        let subring = self.subring;
-        if cars::car_names(rules, nodes, locks, main) {
-            if cars::car_names(rules, nodes, locks, subring) {
-                return words::all_below(self.word, locks);
-            }
-            return false;
-        }
-        false
+        cars::car_names(limits, self.main)
+            && cars::car_names(limits, self.subring)
+            && words::all_below(self.word, limits.locks)
     }
 }

@@ -1,52 +1,20 @@
-// The digits of a number: which byte is its next one.
-ghost use Rattle.std.specs.Prelude.{◌-◌, ◌^◌, ◌≤◌, ◌≡◌, ◌&&◌, eqb, ltb};
-ghost use Rattle.linereader.specs.Reading.{is_digit, with_digit, is_next_digit};
+// The digits of a number: the number with one digit more.
+#![tactic(auto, unfolding(crate::specs::Reading::is_digit, crate::specs::Reading::with_digit, crate::specs::Reading::is_next_digit))]
 
-// Whether a byte is a digit.
-fn is_digit(byte: u8) -> bool
-    ensures { result ≡ is_digit byte }
+ghost use Rattle.std.specs.Prelude.{◌≡◌, cond, Some, None, unwrap_or};
+ghost use Rattle.linereader.specs.Reading.{with_digit, is_next_digit};
+
+// The number with one digit more, where a byte is its next digit.
+pub(crate) fn digit_behind(number: Option<u64>, byte: u8) -> Option<u64>
+    ensures { result ≡ cond (is_next_digit number byte) (Some (with_digit (unwrap_or number 0) byte)) None }
 {
-    if byte < b'0' {
-        return false;
+    if !byte.is_ascii_digit() {
+        return None;
     }
-    byte <= b'9'
-}
-
-// Whether the number at hand is a 0, behind which no digit comes.
-fn takes_no_digit(begun: bool, number: u64) -> bool
-    ensures { result ≡ (begun && eqb number 0) }
-{
-    if begun {
-        return number == 0;
+    let digit = u64::from(byte - b'0');
+    match number {
+        None => Some(digit),
+        Some(0) => None,
+        Some(number) => number.checked_mul(10)?.checked_add(digit),
     }
-    false
-}
-
-// A digit's number.
-pub(crate) fn digit_of(byte: u8) -> u64
-    requires { 48 ≤ byte }
-    ensures { result ≡ byte - 48 }
-{
-    (byte - b'0') as u64
-}
-
-// Whether the number with one digit more stays below 2 ^ 64.
-fn has_room(number: u64, byte: u8) -> bool
-    requires { 48 ≤ byte }
-    ensures { result ≡ ltb (with_digit number byte) (2 ^ 64) }
-{
-    number <= (18446744073709551615 - digit_of(byte)) / 10
-}
-
-// Whether a byte is the number's next digit.
-pub(crate) fn is_next_digit(begun: bool, number: u64, byte: u8) -> bool
-    ensures { result ≡ is_next_digit begun number byte }
-{
-    if is_digit(byte) {
-        if takes_no_digit(begun, number) {
-            return false;
-        }
-        return has_room(number, byte);
-    }
-    false
 }

@@ -1,28 +1,26 @@
 // A line of the night program read back, byte by byte: its steps, its letter and its numbers, or that it is no line. What has been read of a
 // line goes in and comes back by value, so a text may come in pieces of any size.
-#![tactic(auto)]
+#![tactic(auto, unfolding(crate::specs::Reading::start_scan, crate::specs::Reading::wrong, crate::specs::Reading::digit_read, crate::specs::Reading::steps_read, crate::specs::Reading::letter_read, crate::specs::Reading::space_read, crate::specs::Reading::is_kind, crate::specs::Reading::is_last_number, crate::specs::Reading::number_read, crate::specs::Reading::ends_number, crate::specs::Reading::on_steps, crate::specs::Reading::on_letter, crate::specs::Reading::on_space, crate::specs::Reading::on_numbers, crate::specs::Reading::on_byte_in, crate::specs::Reading::scan_byte))]
 
 mod digits;
 mod letters;
 
-ghost use Rattle.std.specs.Prelude.{◌<◌, true, cond, ◌&&◌, ◌≡◌, eqb};
-ghost use Rattle.linereader.specs.declared.Part.TheVariants.{Whole, Numbers};
-ghost use Rattle.linereader.specs.Reading.{is_next_digit, start_scan, going_on, wrong, digit_read, steps_read, letter_read, space_read, is_last_number, number_read, ends_number, on_steps, on_letter, on_space, on_numbers, scan_byte};
+ghost use Rattle.std.specs.Prelude.{◌<◌, ◌≡◌, cond};
+ghost use Rattle.linereader.specs.Reading.{start_scan, wrong, is_last_number, number_read, on_steps, on_letter, on_space, on_numbers, scan_byte};
 
 pub use letters::kind_of;
 
-// Which lines bear a letter: none; an action's or an event's; a lock's; a run's last; a refused file's.
-#[derive(Clone, Copy)]
+// Which lines bear a letter: an action's or an event's; a lock's; a run's last; a refused file's.
+#[derive(Clone, Copy, Debug, PartialEq, Eq)]
 pub enum LineKind {
-    NoKind,
     Deed,
     Lock,
     Last,
     Refusal,
 }
 
-// The part of the line that comes next; or that it is whole, or no line.
-#[derive(Clone, Copy)]
+// The part of the line that comes next; or that it is whole, or no line: states like the others and no answer, since what is read behind them is wrong too.
+#[derive(Clone, Copy, Debug, PartialEq, Eq)]
 pub enum Part {
     Steps,
     Letter,
@@ -32,12 +30,13 @@ pub enum Part {
     Wrong,
 }
 
-// What has been read of a line: the number at hand, and whether it has a digit yet; the steps, the letter, and so many numbers.
-#[derive(Clone, Copy)]
+// What has been read of a line: the number at hand, if it has a digit yet; the steps, the letter, and so many numbers. They are an array with a count
+// beside it, since the memory is fixed; a scan may be made up with any count, so 4 is asked where it is needed. The letter stays a byte: the promise is of
+// every scan.
+#[derive(Clone, Copy, Debug, PartialEq, Eq)]
 pub struct Scan {
     pub part: Part,
-    pub begun: bool,
-    pub number: u64,
+    pub number: Option<u64>,
     pub steps: u64,
     pub letter: u8,
     pub count: u8,
@@ -48,215 +47,139 @@ pub struct Scan {
 pub fn start_scan() -> Scan
     ensures { result ≡ start_scan }
 {
-    let numbers = [0u64; 4];
     Scan {
         part: Part::Steps,
-        begun: false,
-        number: 0,
+        number: None,
         steps: 0,
         letter: 0,
         count: 0,
-        numbers: numbers,
+        numbers: [0; 4],
     }
 }
 
-// The part that comes next, and the letter; the rest as it was.
-fn going_on(part: Part, letter: u8, scan: Scan) -> Scan
-    ensures { result ≡ going_on part letter scan }
-{
-    let numbers = scan.numbers;
-    Scan {
-        part: part,
-        begun: scan.begun,
-        number: scan.number,
-        steps: scan.steps,
-        letter: letter,
-        count: scan.count,
-        numbers: numbers,
+impl Scan {
+    // No line begins like this.
+    fn wrong(self) -> Scan
+        ensures { result ≡ wrong self }
+    {
+        Scan {
+            part: Part::Wrong,
+            ..self
+        }
     }
-}
 
-// No line begins like this.
-fn wrong(scan: Scan) -> Scan
-    ensures { result ≡ wrong scan }
-{
-    going_on(Part::Wrong, scan.letter, scan)
-}
-
-// One digit more of the number at hand.
-fn digit_read(scan: Scan, byte: u8) -> Scan
-    requires { is_next_digit scan.begun scan.number byte ≡ true }
-    ensures { result ≡ digit_read scan byte }
-{
-    let part = scan.part;
-    let numbers = scan.numbers;
-    Scan {
-        part: part,
-        begun: true,
-        number: scan.number * 10 + digits::digit_of(byte),
-        steps: scan.steps,
-        letter: scan.letter,
-        count: scan.count,
-        numbers: numbers,
+    // One byte more while the steps are read.
+    fn on_steps(self, byte: u8) -> Scan
+        ensures { result ≡ on_steps self byte }
+    {
+        if let Some(number) = digits::digit_behind(self.number, byte) {
+            return Scan {
+                number: Some(number),
+                ..self
+            };
+        }
+        match self.number {
+            Some(steps) if byte == b' ' => Scan {
+                part: Part::Letter,
+                number: None,
+                steps,
+                ..self
+            },
+            _ => self.wrong(),
+        }
     }
-}
 
-// The steps are read, the letter comes next.
-fn steps_read(scan: Scan) -> Scan
-    ensures { result ≡ steps_read scan }
-{
-    let numbers = scan.numbers;
-    Scan {
-        part: Part::Letter,
-        begun: false,
-        number: 0,
-        steps: scan.number,
-        letter: scan.letter,
-        count: scan.count,
-        numbers: numbers,
+    // One byte more where the letter stands.
+    fn on_letter(self, byte: u8) -> Scan
+        ensures { result ≡ on_letter self byte }
+    {
+        if kind_of(byte).is_some() {
+            return Scan {
+                part: Part::Space,
+                letter: byte,
+                ..self
+            };
+        }
+        self.wrong()
     }
-}
 
-// The letter is read.
-fn letter_read(scan: Scan, byte: u8) -> Scan
-    ensures { result ≡ letter_read scan byte }
-{
-    going_on(Part::Space, byte, scan)
-}
-
-// The space behind the letter is read, the first number comes next.
-fn space_read(scan: Scan) -> Scan
-    ensures { result ≡ space_read scan }
-{
-    going_on(Part::Numbers, scan.letter, scan)
-}
-
-// Whether the number at hand is the line's last.
-fn is_last_number(scan: Scan) -> bool
-    requires { scan.count < 4 }
-    ensures { result ≡ is_last_number scan }
-{
-    let needed = letters::numbers_behind(scan.letter);
-    scan.count + 1 == needed
-}
-
-// The part behind a number: the line is whole after the last one.
-fn part_after(last: bool) -> Part
-    ensures { result ≡ cond last Whole Numbers }
-{
-    if last {
-        return Part::Whole;
+    // One byte more behind the letter.
+    fn on_space(self, byte: u8) -> Scan
+        ensures { result ≡ on_space self byte }
+    {
+        if byte == b' ' {
+            return Scan {
+                part: Part::Numbers,
+                ..self
+            };
+        }
+        self.wrong()
     }
-    Part::Numbers
-}
 
-// One number more is read.
-fn number_read(scan: Scan) -> Scan
-    requires { scan.count < 4 }
-    ensures { result ≡ number_read scan }
-{
-    let part = part_after(is_last_number(scan));
-    let mut numbers = scan.numbers;
-    let place = scan.count as usize;
-    numbers[place] = scan.number;
-    Scan {
-        part: part,
-        begun: false,
-        number: 0,
-        steps: scan.steps,
-        letter: scan.letter,
-        count: scan.count + 1,
-        numbers: numbers,
+    // Whether the number at hand is the line's last.
+    fn is_last_number(self) -> bool
+        requires { self.count < 4 }
+        ensures { result ≡ is_last_number self }
+    {
+        self.count + 1 == letters::numbers_behind(self.letter)
     }
-}
 
-// The byte that ends a number: a newline the last one of a line, a space the others.
-fn end_byte(last: bool) -> u8
-    ensures { result ≡ cond last 10 32 }
-{
-    if last {
-        return b'\n';
+    // The byte that ends the number at hand: a newline the last one of a line, a space the others.
+    fn end_byte(self) -> u8
+        requires { self.count < 4 }
+        ensures { result ≡ cond (is_last_number self) 10 32 }
+    {
+        if self.is_last_number() { b'\n' } else { b' ' }
     }
-    b' '
-}
 
-// Whether a byte is the one that ends a number, and the number has a digit.
-fn ends_with(begun: bool, byte: u8, end: u8) -> bool
-    ensures { result ≡ (begun && eqb byte end) }
-{
-    if begun {
-        return byte == end;
+    // One number more is read; the line is whole after the last one.
+    fn number_read(self, number: u64) -> Scan
+        requires count { self.count < 4 }
+        requires number { self.number ≡ Some number }
+        ensures { result ≡ number_read self }
+    {
+        let mut numbers = self.numbers;
+        numbers[usize::from(self.count)] = number;
+        let part = if self.is_last_number() {
+            Part::Whole
+        } else {
+            Part::Numbers
+        };
+        Scan {
+            part,
+            number: None,
+            count: self.count + 1,
+            numbers,
+            ..self
+        }
     }
-    false
-}
 
-// Whether a byte ends the number at hand.
-fn ends_number(scan: Scan, byte: u8) -> bool
-    ensures { result ≡ ends_number scan byte }
-{
-    if 4 <= scan.count {
-        return false;
+    // One byte more while the numbers are read.
+    fn on_numbers(self, byte: u8) -> Scan
+        ensures { result ≡ on_numbers self byte }
+    {
+        if let Some(number) = digits::digit_behind(self.number, byte) {
+            return Scan {
+                number: Some(number),
+                ..self
+            };
+        }
+        match self.number {
+            Some(number) if self.count < 4 && byte == self.end_byte() => self.number_read(number),
+            _ => self.wrong(),
+        }
     }
-    ends_with(scan.begun, byte, end_byte(is_last_number(scan)))
-}
-
-// One byte more while the steps are read.
-fn on_steps(scan: Scan, byte: u8) -> Scan
-    ensures { result ≡ on_steps scan byte }
-{
-    if digits::is_next_digit(scan.begun, scan.number, byte) {
-        return digit_read(scan, byte);
-    }
-    if ends_with(scan.begun, byte, b' ') {
-        return steps_read(scan);
-    }
-    wrong(scan)
-}
-
-// One byte more where the letter stands.
-fn on_letter(scan: Scan, byte: u8) -> Scan
-    ensures { result ≡ on_letter scan byte }
-{
-    if letters::is_kind(kind_of(byte)) {
-        return letter_read(scan, byte);
-    }
-    wrong(scan)
-}
-
-// One byte more behind the letter.
-fn on_space(scan: Scan, byte: u8) -> Scan
-    ensures { result ≡ on_space scan byte }
-{
-    if byte == b' ' {
-        return space_read(scan);
-    }
-    wrong(scan)
-}
-
-// One byte more while the numbers are read.
-fn on_numbers(scan: Scan, byte: u8) -> Scan
-    ensures { result ≡ on_numbers scan byte }
-{
-    if digits::is_next_digit(scan.begun, scan.number, byte) {
-        return digit_read(scan, byte);
-    }
-    if ends_number(scan, byte) {
-        return number_read(scan);
-    }
-    wrong(scan)
 }
 
 // One byte more.
 pub fn scan_byte(scan: Scan, byte: u8) -> Scan
     ensures { result ≡ scan_byte scan byte }
 {
-    let part = scan.part;
-    match part {
-        Part::Steps => on_steps(scan, byte),
-        Part::Letter => on_letter(scan, byte),
-        Part::Space => on_space(scan, byte),
-        Part::Numbers => on_numbers(scan, byte),
-        Part::Whole => wrong(scan),
-        Part::Wrong => wrong(scan),
+    match scan.part {
+        Part::Steps => scan.on_steps(byte),
+        Part::Letter => scan.on_letter(byte),
+        Part::Space => scan.on_space(byte),
+        Part::Numbers => scan.on_numbers(byte),
+        Part::Whole | Part::Wrong => scan.wrong(),
     }
 }

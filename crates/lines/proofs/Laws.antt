@@ -1,4 +1,5 @@
 -- Laws of the definitions in specs/Line: decimal numbers, a line's length, and a line as a run of stores.
+use Rattle.std.specs.Prelude.{Option, Some, None}
 use Prim.Native.Nat.{ℕ, zero, suc, ◌+◌, ◌-◌, ◌*◌, ◌/◌, ◌%◌, ◌^◌, ◌≤◌, ◌<◌}
 use mathlib.Core.Path.{◌≡◌, refl, sym, ap, ◌∙◌}
 use mathlib.Core.Bool.{Bool, true, false, cond}
@@ -10,7 +11,7 @@ use borrow.Author.Tests.{lt-ltb, le-ltb, ltb-true, ltb-false}
 use lib.Dec.{ltb, leb, lit≤, lit<}
 use lib.ListN.{length, get_or, set, take, drop, length-append, take-append-drop}
 use lib.Seq.{sets, sets-eq, take-suc, take_all}
-use Rattle.lines.specs.Line.{digit, digits, decimal, spaced, line, row}
+use Rattle.lines.specs.Line.{digit, digits, decimal, spaced, line, row, behind, text}
 
 -- ---- how many digits are enough
 
@@ -189,10 +190,24 @@ pub row-length : (first : ℕ) (numbers : List ℕ) → length (row first number
 unfolding row
 row-length first numbers = simp length-append (omega arith)
 
--- whether there is room, as it was asked by the width of the first number, is whether the whole text fits
-pub room_told : (more rest room : ℕ) {text wide digits : ℕ} {answer : Bool}
-    → text ≡ digits + more + rest → wide ≡ digits → answer ≡ leb (wide + more + rest) room → leb text room ≡ answer
-room_told more rest room e d a = ap (λ (n : ℕ). leb n room) (e ∙ ap (λ (n : ℕ). n + more + rest) (sym d)) ∙ sym a
+-- a line and a row by their parts, and the parts' lengths
+text_parts : (first : ℕ) (letter : Option ℕ) (numbers : List ℕ) → text first letter numbers ≡ decimal first ++ behind letter ++ spaced numbers ++ (10 ∷ [])
+unfolding line row
+text_parts first (Some letter) numbers = refl
+text_parts first None numbers = simp append-nil
+
+pub text-length : (first : ℕ) (letter : Option ℕ) (numbers : List ℕ)
+    → length (text first letter numbers) ≡ length (decimal first) + length (behind letter) + 1 + length (spaced numbers)
+text-length first letter numbers = simp (text_parts first letter numbers, length-append) (omega arith)
+
+pub behind-length_most : (letter : Option ℕ) → length (behind letter) ≤ 2
+behind-length_most (Some letter) = lit≤ tt
+behind-length_most None = lit≤ tt
+
+-- whether there is room, as it was asked by the widths of the first number and the letter, is whether the whole text fits
+pub room_told : (first : ℕ) (letter : Option ℕ) (numbers : List ℕ) (room : ℕ) {wide letter_wide : ℕ} {answer : Bool} → wide ≡ length (decimal first)
+    → letter_wide ≡ length (behind letter) → answer ≡ leb (wide + letter_wide + 1 + length (spaced numbers)) room → leb (length (text first letter numbers)) room ≡ answer
+room_told first letter numbers room w l a = rw (text-length first letter numbers, ← w, ← l) (sym a)
 
 -- each number has at most 20 digits and a space
 spaced-length_most : (numbers : List ℕ) → length (spaced numbers) ≤ 21 * length numbers
@@ -253,28 +268,15 @@ put_another before at numbers i {after = after} {end = end} h p q r =
     rw (spaced-more numbers i h)
     (put_on before at (spaced (take i numbers)) (32 ∷ decimal (get_or numbers i 0)) p (put_on after end (32 ∷ []) (decimal (get_or numbers i 0)) q r))
 
--- bytes put at the buffer's start stand before what was behind them
-whole : (before text : List ℕ) {after : List ℕ} {end : ℕ} → Put before 0 text after end → length text ≤ length before
-    → (end ≡ length text) × (after ≡ text ++ drop (length text) before)
-whole before text p room = (omega arith, p.1 ∙ sets_front text before room)
-
--- a line's parts, and a row's, put one behind the other from the buffer's start
-pub put-line : (before : List ℕ) (steps letter : ℕ) (numbers : List ℕ) {b₁ b₂ b₃ b₄ after : List ℕ} {e₁ e₂ e₃ e₄ end : ℕ}
-    → Put before 0 (decimal steps) b₁ e₁ → Put b₁ e₁ (32 ∷ []) b₂ e₂ → Put b₂ e₂ (letter ∷ []) b₃ e₃
-    → Put b₃ e₃ (spaced numbers) b₄ e₄ → Put b₄ e₄ (10 ∷ []) after end → length (line steps letter numbers) ≤ length before
-    → (end ≡ length (line steps letter numbers)) × (after ≡ line steps letter numbers ++ drop (length (line steps letter numbers)) before)
-unfolding line
-put-line before steps letter numbers {b₁ = b₁} {e₁ = e₁} p₁ p₂ p₃ p₄ p₅ room =
-    let s : List ℕ = decimal steps in
-    let between : List ℕ = 32 ∷ letter ∷ [] in
-    let l = put_on before 0 s between p₁ (put_on b₁ e₁ (32 ∷ []) (letter ∷ []) p₂ p₃) in
-    let n = put_on before 0 (s ++ between) (spaced numbers) l p₄ in
-    whole before (line steps letter numbers) (put_on before 0 (s ++ between ++ spaced numbers) (10 ∷ []) n p₅) room
-
-pub put-row : (before : List ℕ) (first : ℕ) (numbers : List ℕ) {b₁ b₂ after : List ℕ} {e₁ e₂ end : ℕ}
-    → Put before 0 (decimal first) b₁ e₁ → Put b₁ e₁ (spaced numbers) b₂ e₂ → Put b₂ e₂ (10 ∷ []) after end → length (row first numbers) ≤ length before
-    → (end ≡ length (row first numbers)) × (after ≡ row first numbers ++ drop (length (row first numbers)) before)
-unfolding row
-put-row before first numbers p₁ p₂ p₃ room =
-    let n = put_on before 0 (decimal first) (spaced numbers) p₁ p₂ in
-    whole before (row first numbers) (put_on before 0 (decimal first ++ spaced numbers) (10 ∷ []) n p₃) room
+-- the parts of a line or a row, put one behind the other from the buffer's start, stand before what was behind them
+pub put-text : (before : List ℕ) (first : ℕ) (letter : Option ℕ) (numbers : List ℕ) {b₁ b₂ b₃ after : List ℕ} {e₁ e₂ e₃ end : ℕ}
+    → Put before 0 (decimal first) b₁ e₁ → Put b₁ e₁ (behind letter) b₂ e₂ → Put b₂ e₂ (spaced numbers) b₃ e₃ → Put b₃ e₃ (10 ∷ []) after end
+    → length (text first letter numbers) ≤ length before
+    → (end ≡ length (text first letter numbers)) × (after ≡ text first letter numbers ++ drop (length (text first letter numbers)) before)
+put-text before first letter numbers p₁ p₂ p₃ p₄ room =
+    let d : List ℕ = decimal first in
+    let b : List ℕ = behind letter in
+    let l = put_on before 0 d b p₁ p₂ in
+    let n = put_on before 0 (d ++ b) (spaced numbers) l p₃ in
+    let p = rw (← text_parts first letter numbers) at (put_on before 0 (d ++ b ++ spaced numbers) (10 ∷ []) n p₄) in
+    (omega arith, p.1 ∙ sets_front (text first letter numbers) before room)

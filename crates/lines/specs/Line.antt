@@ -1,8 +1,7 @@
 -- 01, "The run and its lines": "Each line: steps done, letter, two numbers, single spaces, newline; numbers are decimal without
 -- leading zeros"; and number 16. 02, item 13: an H line has four numbers, and a sheet has rows of numbers without a letter.
-use Rattle.std.specs.Prelude.{ℕ, zero, suc, ◌+◌, ◌/◌, ◌%◌, cond, List, [], ◌∷◌, ◌++◌, ltb, leb, length, drop}
-use Rattle.lines.specs.declared.Written.{Written}
-use Rattle.lines.specs.declared.Written.TheVariants.{Length, TooShort}
+use Rattle.std.specs.Prelude.{ℕ, zero, suc, ◌+◌, ◌/◌, ◌%◌, cond, List, [], ◌∷◌, ◌++◌, ltb, leb, length, drop, Option, Some, None, Result, Ok, Err}
+use Rattle.lines.specs.declared.TooShort.{TooShort}
 
 -- the character of a digit
 unfoldable pub digit : ℕ → ℕ
@@ -31,26 +30,36 @@ line steps letter numbers = decimal steps ++ (32 ∷ letter ∷ []) ++ spaced nu
 unfoldable pub row : ℕ → List ℕ → List ℕ
 row first numbers = decimal first ++ spaced numbers ++ (10 ∷ [])
 
+-- what stands behind the first number: of a line a space and the letter, of a row nothing
+abbrev pub behind : Option ℕ → List ℕ
+behind (Some letter) = 32 ∷ letter ∷ []
+behind None = []
+
+-- a line, or a row where there is no letter
+abbrev pub text : ℕ → Option ℕ → List ℕ → List ℕ
+text first (Some letter) numbers = line first letter numbers
+text first None numbers = row first numbers
+
 -- "A written line stands at the buffer's start, .. and no other byte changes"; 16 leaves the buffer as it was
 unfoldable pub buffer_after : List ℕ → List ℕ → List ℕ
 buffer_after buffer written =
     cond (leb (length written) (length buffer)) (written ++ drop (length written) buffer) buffer
 
 -- an answer's number in 01, 0 where the line was written, and the length that it tells
-unfoldable pub written_number : Written → ℕ
-written_number (Length n) = 0
-written_number TooShort = 16
+unfoldable pub written_number : Result ℕ TooShort → ℕ
+written_number (Ok n) = 0
+written_number (Err e) = 16
 
-unfoldable pub written_length : Written → ℕ
-written_length (Length n) = n
-written_length TooShort = 0
+unfoldable pub written_length : Result ℕ TooShort → ℕ
+written_length (Ok n) = n
+written_length (Err e) = 0
 
 -- what an answer tells
 pub record Told : Type 0 where
   pub number : ℕ
   pub length : ℕ
 
-unfoldable pub written_told : Written → Told
+unfoldable pub written_told : Result ℕ TooShort → Told
 written_told w = record { number = written_number w; length = written_length w }
 
 -- "the answer is its length"; 16 "buffer shorter than the line"

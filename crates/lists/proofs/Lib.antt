@@ -3,3 +3,5 @@ pub mod First
 pub mod Tests
 pub mod Places
 pub mod Exchanged
+pub mod Ranges
+pub mod Firsts

@@ -1,130 +1,146 @@
-// Reading a line. Its words stand with one space between them, and each is put into a cell as one number: a name as names.rt has
-// it, a decimal number as it is. Where a car or an activity has no lock or source, the cell for it is 0, so that each thing of a
-// command has its cell whatever stands before it. forms.rt says which words a line may have.
-use crate::{forms, names};
+// The words of a line, read one behind the other; between two stands one space. A thing that is not written as it must be is none.
+use cars::{Car, Tag};
+use junction::Junction;
+use plan::Plan;
+use positions::VALUES;
+use std::str::Split;
+use usernode::{Activity, Node};
 
-pub const CELLS: usize = 20;
+// The words that are still to be read.
+#[derive(Drop)]
+pub struct Words<'a>(Split<'a, char>);
 
-// The cells up to `count` are filled; `form` is the form of the words to come.
-#[derive(Clone, Copy)]
-pub struct Line {
-    cells: [u64; CELLS],
-    count: usize,
-    form: u64,
+// The number that a word is, in decimal digits alone.
+fn decimal(word: &str) -> Option<u64> {
+    if word.starts_with('+') {
+        return None;
+    }
+    word.parse().ok()
 }
 
-// A word up to some byte of it.
-#[derive(Clone, Copy)]
-struct Word {
-    state: u8,
-    value: u64,
-}
+impl<'a> Words<'a> {
+    // The words of a line.
+    pub fn of(line: &'a str) -> Words<'a> {
+        Words(line.split(' '))
+    }
 
-const EMPTY: u8 = 0;
+    // The next word.
+    pub fn next(&mut self) -> Option<&'a str> {
+        self.0.next()
+    }
 
-const GOOD: u8 = 1;
+    // A number of at most 2^64 - 1.
+    pub fn number(&mut self) -> Option<u64> {
+        decimal(self.next()?)
+    }
 
-const BAD: u8 = 2;
+    // A number of at most 255.
+    pub fn small(&mut self) -> Option<u8> {
+        u8::try_from(self.number()?).ok()
+    }
 
-// The word with one byte more, for a form: a number of at most 2^64 - 1, or a name of at most eight letters.
-fn longer(word: Word, byte: u8, form: u64) -> Word {
-    let value = word.value;
-    if word.state <= GOOD {
-        if form < forms::NAMES {
-            if b'0' <= byte {
-                if byte <= b'9' {
-                    let digit = (byte - b'0') as u64;
-                    if value <= (18446744073709551615 - digit) / 10 {
-                        return Word {
-                            state: GOOD,
-                            value: value * 10 + digit,
-                        };
-                    }
-                }
-            }
-        } else if byte != 0 {
-            if value < 0x100_0000_0000_0000 {
-                return Word {
-                    state: GOOD,
-                    value: (value << 8) | (byte as u64),
-                };
-            }
+    // A place, of so many.
+    pub fn place(&mut self, places: usize) -> Option<usize> {
+        let place = usize::try_from(self.number()?).ok()?;
+        (place < places).then_some(place)
+    }
+
+    // The place of a node or a junction, of so many, by its number: the first has number 1.
+    pub fn numbered(&mut self, places: usize) -> Option<usize> {
+        let number = usize::try_from(self.number()?).ok()?;
+        number.checked_sub(1).filter(|place| *place < places)
+    }
+
+    // A flag, 0 or 1.
+    fn flag(&mut self) -> Option<bool> {
+        match self.number()? {
+            0 => Some(false),
+            1 => Some(true),
+            _ => None,
         }
     }
-    Word {
-        state: BAD,
-        value: 0,
-    }
-}
 
-// The line with one word more; if that may not stand there, nothing may any more.
-fn with_word(line: Line, word: Word) -> Line {
-    let mut cells = line.cells;
-    let at = line.count;
-    let skipped = forms::skipped(line.form, word.value);
-    if word.state == GOOD {
-        if at < CELLS {
-            if skipped <= 2 {
-                cells[at] = word.value;
-                return Line {
-                    cells: cells,
-                    count: at + 1 + skipped,
-                    form: forms::behind(line.form, word.value, skipped),
-                };
+    // Lock, source.
+    fn tag(&mut self) -> Option<Tag> {
+        Some(Tag {
+            lock: self.small()?,
+            source: self.small()?,
+        })
+    }
+
+    // Name; lock and source, if it has them.
+    pub fn car(&mut self) -> Option<Car> {
+        match self.next()? {
+            "idle" => Some(Car::Idle),
+            "token" => Some(Car::Token),
+            "null" => Some(Car::Null),
+            "reqp" => Some(Car::Reqp(self.tag()?)),
+            "failp" => Some(Car::Failp(self.tag()?)),
+            "dov" => Some(Car::Dov(self.tag()?)),
+            "gotp" => Some(Car::Gotp(self.tag()?)),
+            "didv" => Some(Car::Didv(self.tag()?)),
+            _ => None,
+        }
+    }
+
+    // Name; lock, if it has one.
+    fn activity(&mut self) -> Option<Activity> {
+        match self.next()? {
+            "idle" => Some(Activity::Idle),
+            "sendreqp" => Some(Activity::ToSendReqp(self.small()?)),
+            "waitreqp" => Some(Activity::WaitingReqp(self.small()?)),
+            "senddov" => Some(Activity::ToSendDov(self.small()?)),
+            "waitdov" => Some(Activity::WaitingDov(self.small()?)),
+            _ => None,
+        }
+    }
+
+    // Car, in-train flag, activity, held word, letting-go word.
+    pub fn node(&mut self) -> Option<Node> {
+        Some(Node {
+            car: self.car()?,
+            flag: self.flag()?,
+            activity: self.activity()?,
+            held: self.number()?,
+            letting: self.number()?,
+        })
+    }
+
+    // Main car, subring car, train flag, tour flag, word.
+    pub fn junction(&mut self) -> Option<Junction> {
+        Some(Junction {
+            main: self.car()?,
+            subring: self.car()?,
+            train: self.flag()?,
+            tour: self.flag()?,
+            word: self.number()?,
+        })
+    }
+
+    // The values at the line's end, at most sixteen; those not given are 0.
+    pub fn values(&mut self) -> Option<[u8; 16]> {
+        let mut values = [0; 16];
+        for value in &mut values {
+            match self.next() {
+                None => break,
+                Some(word) => *value = u8::try_from(decimal(word)?).ok()?,
             }
         }
+        Some(values)
     }
-    Line {
-        cells: cells,
-        count: CELLS,
-        form: forms::NONE,
-    }
-}
 
-pub fn line_of(text: &[u8]) -> Line {
-    let mut line = Line {
-        cells: [0u64; CELLS],
-        count: 0,
-        form: forms::ANY,
-    };
-    let mut word = Word {
-        state: EMPTY,
-        value: 0,
-    };
-    let mut i = 0;
-    while i < text.len() {
-        let byte = text[i];
-        if byte == b' ' {
-            line = with_word(line, word);
-            word = Word {
-                state: EMPTY,
-                value: 0,
-            };
-        } else {
-            word = longer(word, byte, line.form);
-        }
-        i += 1;
-    }
-    with_word(line, word)
-}
-
-// What is in a cell; 0 where there is no such cell.
-pub fn cell(line: Line, at: usize) -> u64 {
-    let cells = line.cells;
-    if at < CELLS {
-        return cells[at];
-    }
-    0
-}
-
-// The name of the command that a line is; 0 where it is none. Behind the name of a heading anything may stand.
-pub fn command(line: Line) -> u64 {
-    let name = cell(line, 0);
-    if name == names::HEADING {
-        return name;
-    }
-    match line.form >> 60 {
-        forms::END | forms::MORE => name,
-        _ => 0,
+    // Rules, locks, number of positions, the first values; all others are 0.
+    pub fn plan(&mut self) -> Option<Plan> {
+        let rules = self.small()?;
+        let locks = self.small()?;
+        let positions = self.small()?;
+        let mut values = [0; VALUES];
+        values[..16].copy_from_slice(&self.values()?);
+        Some(Plan {
+            rules,
+            locks,
+            positions,
+            values,
+        })
     }
 }

@@ -1,4 +1,5 @@
 -- The lines of actions and events of an accepted file: two numbers each, and steps and numbers far below 2 ^ 64. An induction along the run's course.
+use Rattle.std.specs.Prelude.{Option, Some, None, Result, Ok, Err}
 use Prim.Native.Nat.{ℕ, zero, suc, ◌+◌, ◌-◌, ◌*◌, ◌^◌, ◌≤◌, ◌<◌}
 use mathlib.Core.Path.{◌≡◌, refl, ◌∙◌, sym, subst}
 use mathlib.Core.Bool.{Bool, true, false, cond, true≢false}
@@ -14,7 +15,7 @@ use Rattle.plan.proofs.Laws.{in_range_lem}
 use Rattle.turns.specs.Turn.{event_lock}
 use Rattle.acts.specs.declared.Action.{Action}
 use Rattle.ring.specs.declared.State.{State}
-use Rattle.ring.specs.declared.Happening.{Happening}
+use Rattle.turns.specs.declared.Event.{Event}
 use Rattle.ring.specs.State.{start_state}
 use Rattle.ring.specs.Sound.{sound}
 use Rattle.ring.specs.Walk.{quiet}
@@ -25,8 +26,7 @@ use Rattle.nightfile.specs.File.{file_number, plan_part, plan_of, schedule_body,
 use Rattle.nightfile.proofs.Laws.{accepted as accepted-file, plan-in_range}
 use Rattle.items.specs.declared.Item.{Item}
 use Rattle.items.specs.declared.Item.TheVariants.{Steps, Act}
-use Rattle.items.specs.declared.ItemAnswer.{ItemAnswer}
-use Rattle.items.specs.declared.ItemAnswer.TheVariants.{NoMore, Found, LeftOver, Bad}
+use Rattle.items.specs.declared.ItemRefusal.{ItemRefusal}
 use Rattle.items.specs.Items.{place_at, read_at}
 use Rattle.wording.specs.declared.Line.{Line}
 use Rattle.wording.specs.Wording.{line_of, action_says, refused_says, event_says, lock_says, end_letter, last_says}
@@ -46,7 +46,7 @@ use Rattle.ownsheet.specs.Numbers.{is_deed, lines_of}
 
 -- a line of two numbers, below 2 ^ 64 as its steps are
 pub record Small (line : Line) : Type 0 where
-  pub short : line.long ≡ false
+  pub short : line.more ≡ None
   pub steps : line.steps < 2 ^ 64
   pub first : line.first < 2 ^ 64
   pub second : line.second < 2 ^ 64
@@ -105,12 +105,11 @@ unfolding handed_back
 number_same action state node lock p = rw (act_of_sound action state node lock p)
 
 -- as many items as bytes, at most
-others_most : (answer : ItemAnswer) (others : List Item) (n : ℕ) → length others ≤ n → length (and_others answer others) ≤ suc n
+others_most : (answer : Result (Option Item) ItemRefusal) (others : List Item) (n : ℕ) → length others ≤ n → length (and_others answer others) ≤ suc n
 unfolding and_others
-others_most NoMore others n m = omega arith
-others_most (Found item) others n m = omega (arith, m)
-others_most LeftOver others n m = omega arith
-others_most (Bad place) others n m = omega arith
+others_most (Ok None) others n m = omega arith
+others_most (Ok (Some item)) others n m = omega (arith, m)
+others_most (Err refusal) others n m = omega arith
 
 items_most : (n : ℕ) (schedule : List ℕ) (at : ℕ) → length (items_within n schedule at) ≤ n
 unfolding items_within
@@ -125,7 +124,7 @@ schedule_most file e =
     (λ z. omega (arith, length-drop (schedule_start file) file, (accepted-file file e).most)) (λ z. omega arith)
 
 -- where nothing happens the lock is 0
-quiet_lock : event_lock quiet.event < 64
+quiet_lock : event_lock quiet < 64
 unfolding quiet event_lock
 quiet_lock = omega arith
 
@@ -137,7 +136,7 @@ module _ (ceiling : ℕ) (few : ceiling < 2 ^ 64) where
   record Going (left : ℕ) (run : Run) : Type 0 where
     passes : sound run.reached.state ≡ true
     steps : run.reached.steps ≤ ceiling
-    events : (place : ℕ) → event_lock (get_or run.events place quiet).event < 64
+    events : (place : ℕ) → event_lock (get_or run.events place quiet) < 64
     at : run.at + 3 * left ≤ 196605
 
   -- what comes then
@@ -260,7 +259,7 @@ module _ (ceiling : ℕ) (few : ceiling < 2 ^ 64) where
       record {
         passes = by_test (λ (s : State). sound s ≡ true) _ (λ z. start_sound plan range) (λ z. absurd (true≢false (sym range ∙ z)));
         steps = omega arith;
-        events = λ place. place_default (λ (h : Happening). event_lock h.event < 64) quiet node_places place quiet_lock;
+        events = λ place. place_default (λ (event : Option Event). event_lock event < 64) quiet node_places place quiet_lock;
         at = omega (arith, schedule_most file e);
       }
 

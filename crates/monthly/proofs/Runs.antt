@@ -1,5 +1,6 @@
 -- The text of one night file: of an accepted file a run as it is gathered, whose H lines and steps are the numbers of the file's row; of a refused file
 -- one Q line.
+use Rattle.std.specs.Prelude.{Option, Some}
 use Prim.Native.Nat.{ℕ, zero, suc, ◌+◌, ◌^◌, ◌≤◌, ◌<◌}
 use mathlib.Core.Path.{◌≡◌, refl, ◌∙◌, sym, ap, ap₂, subst}
 use mathlib.Core.Bool.{Bool, true, false, cond, not, true≢false}
@@ -18,7 +19,7 @@ use Rattle.nightfile.proofs.FirstBad.{six_tells_the_first_bad, only_six_tells_a_
 use Rattle.tally.specs.Tally.{sum_of}
 use Rattle.tally.proofs.Small.{sum-together}
 use Rattle.wording.specs.declared.Line.{Line}
-use Rattle.wording.specs.Wording.{line_of, numbers_of, text, lock_says, end_letter, last_says}
+use Rattle.wording.specs.Wording.{line_of, more_of, numbers_of, text, lock_says, end_letter, last_says}
 use Rattle.course.specs.declared.Reached.{Reached}
 use Rattle.course.specs.Standing.{locks_of}
 use Rattle.course.specs.Wording.{is_cut}
@@ -65,18 +66,18 @@ four_small p q r s (suc (suc (suc (suc place)))) = lit< tt
 not_this : (letter other : ℕ) → is_deed letter ≡ true → is_deed other ≡ false → eqb letter other ≡ true → ⊥
 not_this letter other e none z = true≢false (sym e ∙ ap is_deed (eqb-true letter other z) ∙ none)
 
-deed_kind : (letter : ℕ) → is_deed letter ≡ true → kind_of letter ≡ Deed
+deed_kind : (letter : ℕ) → is_deed letter ≡ true → kind_of letter ≡ Some Deed
 unfolding is_deed kind_of
 deed_kind letter e =
-    past 72 Lock _ refl
-    (past 69 Last _ refl
-    (past 67 Last _ refl
-    (past 81 Refusal _ refl (by_test IsDeed (is_deed letter) (λ z. refl) (λ z. absurd (true≢false (sym e ∙ z)))))))
+    past 72 (Some Lock) _ refl
+    (past 69 (Some Last) _ refl
+    (past 67 (Some Last) _ refl
+    (past 81 (Some Refusal) _ refl (by_test IsDeed (is_deed letter) (λ z. refl) (λ z. absurd (true≢false (sym e ∙ z)))))))
   where
-    IsDeed : LineKind → Type 0
-    IsDeed kind = kind ≡ Deed
+    IsDeed : Option LineKind → Type 0
+    IsDeed kind = kind ≡ Some Deed
 
-    past : (other : ℕ) (kind later : LineKind) → is_deed other ≡ false → IsDeed later → IsDeed (cond (eqb letter other) kind later)
+    past : (other : ℕ) (kind later : Option LineKind) → is_deed other ≡ false → IsDeed later → IsDeed (cond (eqb letter other) kind later)
     past other kind later none l = by_test IsDeed (eqb letter other) (λ z. absurd (not_this letter other e none z)) (λ z. l)
 
 deed_numbers : (letter : ℕ) → is_deed letter ≡ true → numbers_behind letter ≡ 2
@@ -85,11 +86,11 @@ deed_numbers letter e = by_test (λ (n : ℕ). n ≡ 2) (eqb letter 72) (λ z. a
 
 -- such a line, if it is small
 deed_right : (l : Line) → is_deed_line l ≡ true → Small l → OfKind Deed (as_text l)
-unfolding is_deed_line is_deed numbers_of is_kind
+unfolding is_deed_line is_deed numbers_of more_of is_kind
 deed_right l e s =
     let kind = deed_kind l.letter e in
     let numbers : numbers_of l ≡ l.first ∷ l.second ∷ [] =
-    ap (λ (long : Bool). l.first ∷ l.second ∷ cond long (l.third ∷ l.fourth ∷ []) []) s.short in
+    ap (λ (more : Option (ℕ × ℕ)). l.first ∷ l.second ∷ more_of more) s.short in
     record {
       is_line = record {
         known = ap is_kind kind;
@@ -121,7 +122,7 @@ locks_many reached lock zero = refl
 locks_many reached lock (suc n) = ap suc (locks_many reached (lock + 1) n)
 
 locks_say : (reached : Reached) (lock n k : ℕ) → k < n → (get_or (as_texts (lock_lines reached lock n)) k no_line).numbers ≡ lock_numbers reached (lock + k)
-unfolding lock_lines as_texts numbers_of lock_says
+unfolding lock_lines as_texts numbers_of more_of lock_says
 locks_say reached lock zero k below = absurd (omega (arith, below))
 locks_say reached lock (suc n) zero below = let same : lock ≡ lock + 0 = omega arith in ap (lock_numbers reached) same
 locks_say reached lock (suc n) (suc k) below =
@@ -131,7 +132,7 @@ locks_say reached lock (suc n) (suc k) below =
 -- they are small, since what is counted is
 lock_right : (reached : Reached) (lock : ℕ) → Within reached → reached.steps ≤ 1000000 → lock < 64
     → OfKind Lock (as_text (lock_says reached.steps lock (get_or reached.tally.busy lock 0) (get_or reached.tally.grants lock 0) (get_or reached.tally.failed lock 0)))
-unfolding lock_says numbers_of kind_of is_kind numbers_behind
+unfolding lock_says numbers_of more_of kind_of is_kind numbers_behind
 lock_right reached lock w few below =
     record {
       is_line = record {
@@ -144,7 +145,7 @@ lock_right reached lock w few below =
     }
 
 locks_right_lem : (reached : Reached) (lock n : ℕ) → Within reached → reached.steps ≤ 1000000 → lock + n ≤ 64 → LocksFrom lock (as_texts (lock_lines reached lock n))
-unfolding lock_lines as_texts lock_says numbers_of
+unfolding lock_lines as_texts lock_says numbers_of more_of
 locks_right_lem reached lock zero w few room = LocksFrom.none
 locks_right_lem reached lock (suc n) w few room =
     LocksFrom.one_more {lock = lock} (lock_right reached lock w few (omega (arith, room))) refl (omega (arith, room))
@@ -153,7 +154,7 @@ locks_right_lem reached lock (suc n) w few room =
 -- ---- the last line
 
 last_right : (steps : ℕ) (cut : Bool) (grants failed : ℕ) → steps < 2 ^ 64 → grants < 2 ^ 64 → failed < 2 ^ 64 → OfKind Last (as_text (last_says steps cut grants failed))
-unfolding last_says line_of end_letter numbers_of kind_of is_kind numbers_behind
+unfolding last_says line_of end_letter numbers_of more_of kind_of is_kind numbers_behind
 last_right steps true grants failed a b c =
     record { is_line = record { known = refl; many = refl; steps_small = a; small = two_small b c }; of_kind = refl }
 last_right steps false grants failed a b c =

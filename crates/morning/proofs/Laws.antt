@@ -1,22 +1,26 @@
--- Laws of the rows and of the tests: room for one row more, the numbers of verdicts, and that no row and no byte of a name is added or lost.
-use Prim.Native.Nat.{ℕ, ◌+◌, ◌*◌, ◌/◌, ◌≤◌, ◌<◌, min}
-use mathlib.Core.Path.{◌≡◌, refl, ap, ◌∙◌}
-use mathlib.Core.Bool.{Bool, true, false, not}
+-- Laws of the rows and of the tests: the numbers of verdicts, and that no row and no byte of a name is added or lost.
+use Prim.Native.Nat.{ℕ, ◌<◌}
+use mathlib.Core.Path.{◌≡◌, refl, ap₂}
+use mathlib.Core.Bool.{not}
 use mathlib.Core.List.{List}
 use native.Mathlib.Omega.{arith}
 use lib.Dec.{eqb, ltb}
-use lib.ListN.{length, set, length-set}
-use borrow.Author.Tests.{ltb-true}
-use Rattle.lists.proofs.Laws.{and_right}
+use lib.ListN.{length, length-set}
+use denote.Enum.Bare.{sameb}
+use denote.Enum.Declared.{tag_of}
+use Rattle.std.specs.Prelude.{Option, Some, None}
 use Rattle.lists.proofs.Tests.{by_test}
+use Rattle.verdict.specs.contracts.Verdict.{the_type}
 use Rattle.verdict.specs.declared.Verdict.{Verdict}
 use Rattle.verdict.specs.declared.Verdict.TheVariants.{Incomplete, Refused, RefusedActions, Cut, LocksLost, TakesFailed, Good}
 use Rattle.verdict.specs.declared.Judged.{Judged}
 use Rattle.verdict.specs.Verdicts.{verdict_number, judged}
 use Rattle.morning.specs.declared.Place.{Place}
 use Rattle.morning.specs.declared.Place.TheVariants.{LineStart, InLine, InName}
+use Rattle.morning.specs.declared.AtHand.{AtHand}
 use Rattle.morning.specs.declared.Night.{Night}
-use Rattle.morning.specs.Reading.{shown, has_room, is_listed, row_put, rows_closed_by, rows_closing, rows_on_line_start, rows_after_byte_in, rows_after_byte, names_after_name, names_after_byte_in, names_after_byte}
+use Rattle.morning.specs.declared.Entry.{Entry}
+use Rattle.morning.specs.Reading.{shown, is_listed, row_put, rows_closed_by, rows_closing, rows_on_line_start, rows_after_byte_in, rows_after_byte, names_after_name, names_after_byte_in, names_after_byte}
 use Rattle.morning.specs.Theorems.{is_good}
 
 pub verdict_low : (verdict : Verdict) → verdict_number verdict < 7
@@ -40,60 +44,48 @@ good_number_lem LocksLost = refl
 good_number_lem TakesFailed = refl
 good_number_lem Good = refl
 
--- one that is listed has room for its row
-pub listed_room : (number : ℕ) (fits : Bool) (listed room : ℕ) → is_listed number fits listed room ≡ true → listed < room / 7
-unfolding is_listed has_room
-listed_room number fits listed room e =
-    ltb-true listed (room / 7) (and_right fits _ (and_right (ltb number 6) _ e))
+-- verdicts are the same where their numbers are
+number_is_tag : (verdict : Verdict) → tag_of the_type verdict ≡ verdict_number verdict
+unfolding verdict_number
+number_is_tag Incomplete = refl
+number_is_tag Refused = refl
+number_is_tag RefusedActions = refl
+number_is_tag Cut = refl
+number_is_tag LocksLost = refl
+number_is_tag TakesFailed = refl
+number_is_tag Good = refl
 
--- which of two numbers is the smaller
-pub least_left : (a b : ℕ) → a < b → a ≡ min a b
-least_left a b h = omega arith
-
-pub least_right : (a b : ℕ) → b ≤ a → b ≡ min a b
-least_right a b h = omega arith
-
--- seven numbers put one after the other are a row
-pub row_put_lem : (j : Judged) (night : Night) (rows : List ℕ) {number : ℕ} {one two three four five six seven : List ℕ} → number ≡ verdict_number j.verdict
-    → one ≡ set rows (night.listed * 7) number → two ≡ set one (night.listed * 7 + 1) j.noted.count
-    → three ≡ set two (night.listed * 7 + 2) j.noted.steps → four ≡ set three (night.listed * 7 + 3) j.noted.first
-    → five ≡ set four (night.listed * 7 + 4) j.noted.second → six ≡ set five (night.listed * 7 + 5) night.start
-    → seven ≡ set six (night.listed * 7 + 6) night.used → seven ≡ row_put j night rows
-unfolding row_put
-row_put_lem j night rows n a b c d e f g =
-    let at = night.listed * 7 in
-    g ∙ ap (λ (l : List ℕ). set l (at + 6) night.used)
-    (f ∙ ap (λ (l : List ℕ). set l (at + 5) night.start)
-    (e ∙ ap (λ (l : List ℕ). set l (at + 4) j.noted.second)
-    (d ∙ ap (λ (l : List ℕ). set l (at + 3) j.noted.first)
-    (c ∙ ap (λ (l : List ℕ). set l (at + 2) j.noted.steps) (b ∙ ap (λ (l : List ℕ). set l (at + 1) j.noted.count) (a ∙ ap (set rows at) n))))))
+pub same_number : (one other : Verdict) → sameb the_type one other ≡ eqb (verdict_number one) (verdict_number other)
+same_number one other = ap₂ eqb (number_is_tag one) (number_is_tag other)
 
 -- ---- no row is added and none is lost
 
-pub row_long : (j : Judged) (night : Night) (rows : List ℕ) → length (row_put j night rows) ≡ length rows
+pub row_long : (j : Judged) (hand : AtHand) (night : Night) (rows : List Entry) → length (row_put j hand night rows) ≡ length rows
 unfolding row_put
-row_long j night rows = simp length-set
+row_long j hand night rows = length-set rows night.listed _
 
-closed_long : (j : Judged) (night : Night) (rows : List ℕ) → length (rows_closed_by j night rows) ≡ length rows
+closed_long : (j : Judged) (hand : AtHand) (night : Night) (rows : List Entry) → length (rows_closed_by j hand night rows) ≡ length rows
 unfolding rows_closed_by
-closed_long j night rows = by_test (λ (l : List ℕ). length l ≡ length rows) (is_listed (verdict_number j.verdict) night.fits night.listed (length rows)) (λ e. row_long j night rows) (λ e. refl)
+closed_long j hand night rows =
+    by_test (λ (l : List Entry). length l ≡ length rows) (is_listed (verdict_number j.verdict) hand.fits night.listed (length rows))
+    (λ e. row_long j hand night rows) (λ e. refl)
 
-closing_long : (begun : Bool) (night : Night) (rows : List ℕ) → length (rows_closing begun night rows) ≡ length rows
+closing_long : (hand : Option AtHand) (night : Night) (rows : List Entry) → length (rows_closing hand night rows) ≡ length rows
 unfolding rows_closing
-closing_long true night rows = closed_long (judged night.watch) night rows
-closing_long false night rows = refl
+closing_long (Some hand) night rows = closed_long (judged hand.watch) hand night rows
+closing_long None night rows = refl
 
-start_long : (night : Night) (byte : ℕ) (rows : List ℕ) → length (rows_on_line_start night byte rows) ≡ length rows
+start_long : (night : Night) (byte : ℕ) (rows : List Entry) → length (rows_on_line_start night byte rows) ≡ length rows
 unfolding rows_on_line_start
-start_long night byte rows = by_test (λ (l : List ℕ). length l ≡ length rows) (eqb byte 62) (λ e. closing_long night.begun night rows) (λ e. refl)
+start_long night byte rows = by_test (λ (l : List Entry). length l ≡ length rows) (eqb byte 62) (λ e. closing_long night.hand night rows) (λ e. refl)
 
-place_long : (place : Place) (night : Night) (byte : ℕ) (rows : List ℕ) → length (rows_after_byte_in place night byte rows) ≡ length rows
+place_long : (place : Place) (night : Night) (byte : ℕ) (rows : List Entry) → length (rows_after_byte_in place night byte rows) ≡ length rows
 unfolding rows_after_byte_in
 place_long LineStart night byte rows = start_long night byte rows
 place_long InLine night byte rows = refl
 place_long InName night byte rows = refl
 
-pub byte_long : (night : Night) (byte : ℕ) (rows : List ℕ) → length (rows_after_byte night byte rows) ≡ length rows
+pub byte_long : (night : Night) (byte : ℕ) (rows : List Entry) → length (rows_after_byte night byte rows) ≡ length rows
 unfolding rows_after_byte
 byte_long night byte rows = place_long night.place night byte rows
 

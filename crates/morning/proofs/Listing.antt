@@ -1,25 +1,25 @@
 -- Where there is room for all rows and names, all schedules that are not good are listed, in order, each with its row and its name.
-use Prim.Native.Nat.{ℕ, zero, suc, ◌+◌, ◌*◌, ◌/◌, ◌≤◌, ◌<◌}
+use Prim.Native.Nat.{ℕ, zero, suc, ◌+◌, ◌≤◌, ◌<◌}
 use mathlib.Core.Path.{◌≡◌, refl, sym, ap, subst, ◌∙◌}
 use mathlib.Core.Bool.{Bool, true, false, cond, not}
 use mathlib.Core.List.{List, [], ◌∷◌, ◌++◌, map}
 use native.Mathlib.Omega.{arith}
-use native.Mathlib.Numerals.{unary_clauses}
 use lib.Dec.{ltb}
-use lib.ListN.{length, get_or, set, take, drop, length-append, length-map, get_or-append}
-use lib.Seq.{sets, sets-eq, length-sets, length-take-le, take-take, take-add, take_at, drop_at, get_or-take, get_or-append-add, take-set-le}
+use lib.ListN.{length, get_or, set, take, drop, length-append, length-map}
+use lib.Seq.{sets, sets-eq, length-sets, length-take-le, take-take, take-add, take_at, drop_at, get_or-take, get_or-set_same, take-set-le}
 use borrow.Author.Tests.{lt-ltb}
 use Rattle.lists.proofs.Tests.{by_value}
 use Rattle.verdict.specs.declared.Judged.{Judged}
-use Rattle.verdict.specs.Verdicts.{verdict_number, verdict_of}
+use Rattle.verdict.specs.Verdicts.{verdict_of}
+use Rattle.morning.specs.declared.AtHand.{AtHand}
 use Rattle.morning.specs.declared.Night.{Night}
 use Rattle.morning.specs.declared.Entry.{Entry}
-use Rattle.morning.specs.Reading.{start_night, reading, naming, shown, counted_at, has_room, is_listed, closed_as, closed_by, row_put, rows_closed_by, head_begun}
-use Rattle.morning.specs.Order.{entry_at}
+use Rattle.morning.specs.Reading.{start_night, naming, shown, counted_at, has_room, is_listed, closed_as, closed_by, row_put, rows_closed_by}
+use Rattle.morning.specs.Order.{no_entry, entry_at}
 use Rattle.morning.specs.Theorems.{Schedule, no_schedule, number_of, night_text, is_good, not_good, longest_name, name_bytes, RowOf, rows_after, names_after, AllAreListed}
 use Rattle.morning.specs.AnyText.{schedules_in, rows_of, names_of, EveryTextIsListed}
 use Rattle.morning.proofs.Laws.{row_long, good_number_lem}
-use Rattle.morning.proofs.Told.{Book, name_end, name_fits, spelled, whole, closed, closings, at_start, all_told}
+use Rattle.morning.proofs.Told.{Book, name_end, name_fits, spelled, whole_hand, whole, closed, closings, at_start, all_told}
 use Rattle.morning.proofs.AnyText.{a_night_is_cut_into_its_schedules}
 
 -- ---- a name that has room
@@ -88,65 +88,22 @@ spelled_read used names name after final h long so kept =
 
 -- ---- a row
 
-abbrev row_numbers : Judged → Night → List ℕ
-row_numbers j night =
-    verdict_number j.verdict ∷ j.noted.count ∷ j.noted.steps ∷ j.noted.first ∷ j.noted.second ∷ night.start ∷ night.used ∷ []
-
-row-sets : (j : Judged) (night : Night) (rows : List ℕ) → row_put j night rows ≡ sets rows (night.listed * 7) (row_numbers j night)
-unfolding row_put
-row-sets j night rows = simp unary_clauses
-
-number-at : (numbers rows : List ℕ) (at k : ℕ) → at + length numbers ≤ length rows → k < length numbers
-    → get_or (sets rows at numbers) (at + k) 0 ≡ get_or numbers k 0
-number-at numbers rows at k room low =
-    let front : length (take at rows) ≡ at = length-take-le at rows (omega arith) in
-    let whole-front = length-append (take at rows) numbers in
-    ap (λ (l : List ℕ). get_or l (at + k) 0) (sets-eq numbers rows at room)
-    ∙ get_or-append (take at rows ++ numbers) (drop (at + length numbers) rows) 0 (at + k) (omega (arith, whole-front, front, low))
-    ∙ ap (λ (n : ℕ). get_or (take at rows ++ numbers) (n + k) 0) (sym front) ∙ get_or-append-add (take at rows) numbers k 0
-
 -- the row that is put is the one that is found there
-row_found : (j : Judged) (night : Night) (rows : List ℕ) → night.listed < length rows / 7
-    → entry_at (row_put j night rows) night.listed
-    ≡ record {
-      verdict = verdict_number j.verdict;
-      count = j.noted.count;
-      steps = j.noted.steps;
-      first = j.noted.first;
-      second = j.noted.second;
-      start = night.start;
-      end = night.used;
-    }
-unfolding entry_at
-row_found j night rows h =
-    let at = night.listed * 7 in
-    let room : at + 7 ≤ length rows = omega (arith, h) in
-    let numbers = row_numbers j night in
-    let inside : night.listed < length (row_put j night rows) / 7 = subst (λ (n : ℕ). night.listed < n / 7) (sym (row_long j night rows)) h in
-    let found : (k : ℕ) → k < 7 → get_or (row_put j night rows) (at + k) 0 ≡ get_or numbers k 0 =
-    (λ k low. ap (λ (l : List ℕ). get_or l (at + k) 0) (row-sets j night rows) ∙ number-at numbers rows at k room low) in
-    let first : get_or (row_put j night rows) at 0 ≡ get_or numbers 0 0 =
-    (let e : at ≡ at + 0 = omega arith in ap (λ (n : ℕ). get_or (row_put j night rows) n 0) e ∙ found 0 (omega arith)) in
-    rw (lt-ltb night.listed (length (row_put j night rows) / 7) inside, first, found 1 (omega arith), found 2 (omega arith), found 3 (omega arith), found 4 (omega arith), found 5 (omega arith), found 6 (omega arith))
+row_found : (j : Judged) (hand : AtHand) (night : Night) (rows : List Entry) → night.listed < length rows
+    → entry_at (row_put j hand night rows) night.listed ≡ record { verdict = j.verdict; noted = j.noted; start = hand.start; end = night.used }
+unfolding entry_at row_put
+row_found j hand night rows h = get_or-set_same rows night.listed _ no_entry h
 
 -- rows that are the same up to a place have the same entries before it
-entry_same : (rows final : List ℕ) (n k : ℕ) → length final ≡ length rows → take (n * 7) final ≡ take (n * 7) rows → k < n
-    → entry_at final k ≡ entry_at rows k
+entry_same : (rows final : List Entry) (n k : ℕ) → take n final ≡ take n rows → k < n → entry_at final k ≡ entry_at rows k
 unfolding entry_at
-entry_same rows final n k long same below =
-    let at : (i : ℕ) → i < n * 7 → get_or final i 0 ≡ get_or rows i 0 =
-    (λ i l. sym (get_or-take (n * 7) final i 0 l) ∙ ap (λ (m : List ℕ). get_or m i 0) same ∙ get_or-take (n * 7) rows i 0 l) in
-    rw (long, at (k * 7) (omega arith), at (k * 7 + 1) (omega arith), at (k * 7 + 2) (omega arith), at (k * 7 + 3) (omega arith), at (k * 7 + 4) (omega arith), at (k * 7 + 5) (omega arith), at (k * 7 + 6) (omega arith))
+entry_same rows final n k same below =
+    sym (get_or-take n final k no_entry below) ∙ ap (λ (l : List Entry). get_or l k no_entry) same ∙ get_or-take n rows k no_entry below
 
 -- a row that is put leaves those before it
-take-sets : (numbers rows : List ℕ) (n at : ℕ) → n ≤ at → take n (sets rows at numbers) ≡ take n rows
-take-sets [] rows n at h = refl
-take-sets (number ∷ numbers) rows n at h = take-sets numbers (set rows at number) n (suc at) (omega arith) ∙ take-set-le n rows at number h
-
-row_before : (j : Judged) (night : Night) (rows : List ℕ) → take (night.listed * 7) (row_put j night rows) ≡ take (night.listed * 7) rows
-row_before j night rows =
-    let at = night.listed * 7 in
-    ap (take at) (row-sets j night rows) ∙ take-sets (row_numbers j night) rows at at (omega arith)
+row_before : (j : Judged) (hand : AtHand) (night : Night) (rows : List Entry) → take night.listed (row_put j hand night rows) ≡ take night.listed rows
+unfolding row_put
+row_before j hand night rows = take-set-le night.listed rows night.listed _ (omega arith)
 
 -- ---- one schedule's end, with room
 
@@ -161,7 +118,7 @@ after_good name-room book schedule =
 
 closed_good : (room name-room : ℕ) (book : Book) (schedule : Schedule) → ltb (number_of schedule) 6 ≡ false
     → closed room name-room book schedule ≡ after_good name-room book schedule
-unfolding number_of closed_by rows_closed_by is_listed reading naming head_begun
+unfolding number_of closed_by rows_closed_by is_listed naming
 closed_good room name-room book schedule e = rw e
 
 -- any other: its row and its name are put
@@ -169,15 +126,15 @@ abbrev after_listed : ℕ → Book → Schedule → Book
 after_listed name-room book schedule =
     record {
       night = closed_as (name_end name-room book.night.used schedule.name) (book.night.listed + 1) book.night.unlisted (counted_at book.night.counts (number_of schedule)) (whole name-room book schedule);
-      rows = row_put (verdict_of schedule.text) (whole name-room book schedule) book.rows;
+      rows = row_put (verdict_of schedule.text) (whole_hand name-room book schedule) (whole name-room book schedule) book.rows;
       names = spelled name-room book.names book.night.used schedule.name;
     }
 
 closed_listed : (room name-room : ℕ) (book : Book) (schedule : Schedule) → ltb (number_of schedule) 6 ≡ true
-    → name_fits name-room book.night.used true schedule.name ≡ true → book.night.listed < room / 7 → length book.rows ≡ room
+    → name_fits name-room book.night.used true schedule.name ≡ true → book.night.listed < room → length book.rows ≡ room
     → closed room name-room book schedule ≡ after_listed name-room book schedule
-unfolding number_of closed_by rows_closed_by is_listed has_room reading naming head_begun
-closed_listed room name-room book schedule e fits h long = rw (long, e, fits, lt-ltb book.night.listed (room / 7) h)
+unfolding number_of closed_by rows_closed_by is_listed has_room naming
+closed_listed room name-room book schedule e fits h long = rw (long, e, fits, lt-ltb book.night.listed room h)
 
 -- ---- all of them
 
@@ -186,7 +143,7 @@ record Filled (book : Book) (bad : List Schedule) (final : Book) : Type 0 where
   listed : final.night.listed ≡ book.night.listed + length bad
   unlisted : final.night.unlisted ≡ book.night.unlisted
   rows_long : length final.rows ≡ length book.rows
-  rows_kept_lem : take (book.night.listed * 7) final.rows ≡ take (book.night.listed * 7) book.rows
+  rows_kept_lem : take book.night.listed final.rows ≡ take book.night.listed book.rows
   names_long : length final.names ≡ length book.names
   names_kept : take book.night.used final.names ≡ take book.night.used book.names
   row : (k : ℕ) → k < length bad → RowOf final.rows final.names (book.night.listed + k) (get_or bad k no_schedule)
@@ -208,9 +165,9 @@ filled_good name-room book schedule bad final n fits on =
 
 -- the row and the name of one that is listed
 row_of : (name-room : ℕ) (book : Book) (schedule : Schedule) (bad : List Schedule) (final : Book) → length book.names ≡ name-room
-    → book.night.used + length schedule.name ≤ name-room → book.night.listed < length book.rows / 7
+    → book.night.used + length schedule.name ≤ name-room → book.night.listed < length book.rows
     → Filled (after_listed name-room book schedule) bad final → RowOf final.rows final.names book.night.listed schedule
-unfolding closed_as reading naming head_begun number_of
+unfolding closed_as naming
 row_of name-room book schedule bad final n fits h on =
     let used = book.night.used in
     let name = schedule.name in
@@ -219,16 +176,16 @@ row_of name-room book schedule bad final n fits h on =
     let end : name_end name-room used name ≡ used + length name = name_end_lem name-room used name fits in
     let kept = subst (λ (k : ℕ). take k final.names ≡ take k (spelled name-room book.names used name)) end on.names_kept in
     let found =
-    entry_same (row_put (verdict_of schedule.text) (whole name-room book schedule) book.rows) final.rows (listed + 1) listed on.rows_long on.rows_kept_lem (omega arith)
-    ∙ row_found (verdict_of schedule.text) (whole name-room book schedule) book.rows h in
+    entry_same (row_put (verdict_of schedule.text) (whole_hand name-room book schedule) (whole name-room book schedule) book.rows) final.rows (listed + 1) listed on.rows_kept_lem (omega arith)
+    ∙ row_found (verdict_of schedule.text) (whole_hand name-room book schedule) (whole name-room book schedule) book.rows h in
     let start : (entry_at final.rows listed).start ≡ used = ap (λ (entry : Entry). entry.start) found in
     let finish : (entry_at final.rows listed).end ≡ used + length name = ap (λ (entry : Entry). entry.end) found ∙ end in
     record {
       verdict = ap (λ (entry : Entry). entry.verdict) found;
-      count = ap (λ (entry : Entry). entry.count) found;
-      steps = ap (λ (entry : Entry). entry.steps) found;
-      first = ap (λ (entry : Entry). entry.first) found;
-      second = ap (λ (entry : Entry). entry.second) found;
+      count = ap (λ (entry : Entry). entry.noted.count) found;
+      steps = ap (λ (entry : Entry). entry.noted.steps) found;
+      first = ap (λ (entry : Entry). entry.noted.first) found;
+      second = ap (λ (entry : Entry). entry.noted.second) found;
       long = finish ∙ ap (λ (k : ℕ). k + length name) (sym start);
       inside = omega (arith, finish, fits, n, on.names_long, so.long);
       name = ap (λ (k : ℕ). take (length name) (drop k final.names)) start
@@ -236,9 +193,9 @@ row_of name-room book schedule bad final n fits h on =
     }
 
 filled_listed : (name-room : ℕ) (book : Book) (schedule : Schedule) (bad : List Schedule) (final : Book) → length book.names ≡ name-room
-    → book.night.used + length schedule.name ≤ name-room → book.night.listed < length book.rows / 7
+    → book.night.used + length schedule.name ≤ name-room → book.night.listed < length book.rows
     → Filled (after_listed name-room book schedule) bad final → Filled book (schedule ∷ bad) final
-unfolding closed_as reading naming head_begun
+unfolding closed_as naming
 filled_listed name-room book schedule bad final n fits h on =
     let used = book.night.used in
     let name = schedule.name in
@@ -248,10 +205,10 @@ filled_listed name-room book schedule bad final n fits h on =
     record {
       listed = on.listed ∙ omega arith;
       unlisted = on.unlisted;
-      rows_long = on.rows_long ∙ row_long (verdict_of schedule.text) (whole name-room book schedule) book.rows;
-      rows_kept_lem = sym (take-take (listed * 7) ((listed + 1) * 7) final.rows (omega arith)) ∙ ap (take (listed * 7)) on.rows_kept_lem
-          ∙ take-take (listed * 7) ((listed + 1) * 7) _ (omega arith)
-          ∙ row_before (verdict_of schedule.text) (whole name-room book schedule) book.rows;
+      rows_long = on.rows_long ∙ row_long (verdict_of schedule.text) (whole_hand name-room book schedule) (whole name-room book schedule) book.rows;
+      rows_kept_lem = sym (take-take listed (listed + 1) final.rows (omega arith)) ∙ ap (take listed) on.rows_kept_lem
+          ∙ take-take listed (listed + 1) _ (omega arith)
+          ∙ row_before (verdict_of schedule.text) (whole_hand name-room book schedule) (whole name-room book schedule) book.rows;
       names_long = on.names_long ∙ so.long;
       names_kept = sym (take-take used (name_end name-room used name) final.names (omega (arith, end))) ∙ ap (take used) on.names_kept
           ∙ take-take used (name_end name-room used name) _ (omega (arith, end))
@@ -268,7 +225,7 @@ filled_listed name-room book schedule bad final n fits h on =
         subst (λ (place : ℕ). RowOf final.rows final.names place (get_or bad k no_schedule)) e (on.row k (omega (arith, l)))
 
 filled : (room name-room : ℕ) (book : Book) (schedules : List Schedule) → length book.rows ≡ room → length book.names ≡ name-room
-    → book.night.listed + length (not_good schedules) ≤ room / 7 → book.night.used + name_bytes (not_good schedules) + longest_name schedules ≤ name-room
+    → book.night.listed + length (not_good schedules) ≤ room → book.night.used + name_bytes (not_good schedules) + longest_name schedules ≤ name-room
     → Filled book (not_good schedules) (closings room name-room book schedules)
 unfolding not_good name_bytes longest_name closings closed_as number_of
 filled room name-room book [] r n rows-room names-room =
@@ -289,9 +246,9 @@ filled room name-room book (schedule ∷ rest) r n rows-room names-room =
     let end : name_end name-room used name ≡ used + length name = name_end_lem name-room used name fits in
     let good = after_good name-room book schedule in
     let listed = after_listed name-room book schedule in
-    let long = row_long (verdict_of schedule.text) (whole name-room book schedule) book.rows in
+    let long = row_long (verdict_of schedule.text) (whole_hand name-room book schedule) (whole name-room book schedule) book.rows in
     by_value
-    (λ b. book.night.listed + length (cond b (not_good rest) (schedule ∷ not_good rest)) ≤ room / 7
+    (λ b. book.night.listed + length (cond b (not_good rest) (schedule ∷ not_good rest)) ≤ room
     → book.night.used + name_bytes (cond b (not_good rest) (schedule ∷ not_good rest)) + longest_name (schedule ∷ rest) ≤ name-room
     → Filled book (cond b (not_good rest) (schedule ∷ not_good rest)) (closings room name-room (closed room name-room book schedule) rest))
     (is_good (verdict_of schedule.text).verdict)
@@ -325,7 +282,7 @@ pub all_are_listed : AllAreListed
 all_are_listed rows names schedules right rows-room names-room =
     let cut = a_night_is_cut_into_its_schedules schedules right in
     let all = every-text-is_listed rows names (night_text schedules)
-    (subst (λ (them : List Schedule). length (not_good them) ≤ length rows / 7) (sym cut) rows-room)
+    (subst (λ (them : List Schedule). length (not_good them) ≤ length rows) (sym cut) rows-room)
     (subst (λ (them : List Schedule). name_bytes (not_good them) + longest_name them ≤ length names) (sym cut) names-room) in
     record {
       listed = all.listed ∙ ap (λ (them : List Schedule). length (not_good them)) cut;

@@ -1,112 +1,155 @@
--- The loops that look for a listed schedule: laws of `next_place` and of `seeking`.
-use Prim.Native.Nat.{ℕ, zero, suc, ◌+◌, ◌-◌, ◌*◌, ◌/◌, ◌≤◌, ◌<◌}
-use mathlib.Core.Path.{◌≡◌, sym, ap, ◌∙◌}
-use mathlib.Core.Bool.{Bool, cond, not, ◌&&◌}
-use mathlib.Core.List.{List}
+-- The next place of a verdict, as the library finds it.
+use Prim.Native.Nat.{ℕ, ◌+◌, ◌-◌, ◌≤◌, ◌<◌}
+use mathlib.Core.Path.{◌≡◌, refl, sym, ap, ap₂, subst, ◌∙◌}
+use mathlib.Core.Bool.{Bool, true, false, cond, not, ◌&&◌}
+use mathlib.Core.Logic.{⊎_elim}
+use mathlib.Core.List.{List, [], ◌∷◌}
 use native.Mathlib.Omega.{arith}
-use lib.Dec.{eqb, ltb, leb}
-use lib.ListN.{length, get_or}
-use borrow.Author.Tests.{eq-eqb, ne_eqb, lt-ltb, le-ltb, le-leb, lt-leb}
-use Rattle.lists.proofs.First.{Looked, looked_right, looked_wrong, looked_done}
-use Rattle.morning.specs.Order.{has_verdict, places_in, next_place, seeking, seek}
-
--- ---- the next place
+use lib.Dec.{ltb, leb}
+use lib.ListN.{length, get_or, take, drop, length-take, length-drop}
+use lib.Seq.{get_or-take, get_or-drop, take-take}
+use borrow.Author.Tests.{le-leb, lt-leb, lt-ltb, le-ltb, ltb-true, ltb-false}
+use Rattle.lists.proofs.Tests.{by_value, at_most_or_above}
+use Rattle.std.specs.Prelude.{Option, Some, None, option_map}
+use Rattle.std.proofs.lemmas.Option.{cond_some}
+use Rattle.std.specs.List.{position_or_len}
+use Rattle.std.proofs.lemmas.List.{drop-take}
+use Rattle.std.proofs.lemmas.List.Sums.{fails_before_first, passes_at_first, prefix_len-le-length}
+use Rattle.lists.proofs.First.{first_is}
+use denote.Enum.Declared.{tag_of}
+use Rattle.verdict.specs.contracts.Verdict.{the_type}
+use Rattle.verdict.specs.declared.Verdict.{Verdict}
+use Rattle.verdict.specs.declared.Verdict.TheVariants.{Incomplete, Refused, RefusedActions, Cut, LocksLost, TakesFailed, Good}
+use Rattle.verdict.specs.Verdicts.{verdict_number}
+use Rattle.morning.specs.declared.Cursor.{Cursor}
+use Rattle.morning.specs.declared.Entry.{Entry}
+use Rattle.morning.specs.Order.{no_entry, entry_at, is_with, has_verdict, next_place, worst_first, from_verdict, seeking, seek}
 
 -- a place is passed: it stands before the one to begin at, or its row has another verdict
-abbrev pub passed : List ℕ → ℕ → ℕ → ℕ → Bool
+abbrev pub passed : List Entry → Verdict → ℕ → ℕ → Bool
 passed rows verdict from place = not (leb from place && has_verdict rows verdict place)
 
--- the loop, with its place from `from` on
-pub record Sought (rows : List ℕ) (places verdict from first i : ℕ) : Type 0 where
-  pub within : first ≤ places
-  pub behind : from ≤ i
-  pub looked : Looked (passed rows verdict from) places i first
+-- the rows from a place on
+abbrev pub rows_from : List Entry → ℕ → ℕ → List Entry
+rows_from rows places from = take (places - from) (drop from rows)
 
-pub sought_none : (rows : List ℕ) (places verdict from : ℕ) → Sought rows places verdict from places from
-sought_none rows places verdict from =
-    record {
-      within = omega arith;
-      behind = omega arith;
-      looked = record {
-        within = omega arith;
-        right = λ k l m. ap (λ (b : Bool). not (b && has_verdict rows verdict k)) (lt-leb from k l);
-        wrong = λ l. absurd (omega arith);
-      };
-    }
+module _ (rows : List Entry) (places : ℕ) (verdict : Verdict) (from : ℕ) (begun : from ≤ places) (within : places ≤ length rows) where
+  abbrev first : ℕ
+  first = position_or_len (is_with verdict) (rows_from rows places from)
 
--- what is said of a place at or behind the one to begin at
-passed_at : (rows : List ℕ) (verdict from i : ℕ) → from ≤ i → passed rows verdict from i ≡ not (eqb (get_or rows (i * 7) 0) verdict)
-unfolding has_verdict
-passed_at rows verdict from i h = ap (λ (b : Bool). not (b && eqb (get_or rows (i * 7) 0) verdict)) (le-leb from i h)
+  long : length (rows_from rows places from) ≡ places - from
+  long = length-take (places - from) (drop from rows) ∙ omega (arith, length-drop from rows)
 
-pub sought_other : (rows : List ℕ) (places verdict from first i : ℕ) → Sought rows places verdict from first i → (get_or rows (i * 7) 0 ≡ verdict → ⊥)
-    → Sought rows places verdict from first (i + 1)
-sought_other rows places verdict from first i so other =
-    record {
-      within = so.within;
-      behind = omega (arith, so.behind);
-      looked = looked_right _ places i first so.looked (passed_at rows verdict from i so.behind ∙ ap not (ne_eqb _ _ other));
-    }
+  first_within : first ≤ places - from
+  first_within = subst (λ (n : ℕ). first ≤ n) long (prefix_len-le-length (λ entry. not (is_with verdict entry)) (rows_from rows places from))
 
-pub sought_here : (rows : List ℕ) (places verdict from first i : ℕ) → Sought rows places verdict from first i → i < first → get_or rows (i * 7) 0 ≡ verdict
-    → Sought rows places verdict from i (i + 1)
-sought_here rows places verdict from first i so before here =
-    record {
-      within = omega (arith, so.within);
-      behind = omega (arith, so.behind);
-      looked = looked_wrong _ places i first so.looked before (passed_at rows verdict from i so.behind ∙ ap not (eq-eqb _ _ here));
-    }
+  -- a place from the one to begin at on, by its row there
+  passed_behind : (k : ℕ) → from + k < places → passed rows verdict from (from + k) ≡ not (is_with verdict (get_or (rows_from rows places from) k no_entry))
+  unfolding entry_at has_verdict
+  passed_behind k h =
+      ap (λ (b : Bool). not (b && is_with verdict (get_or rows (from + k) no_entry))) (le-leb from (from + k) (omega arith))
+      ∙ ap (λ (entry : Entry). not (is_with verdict entry))
+      (sym (get_or-take (places - from) (drop from rows) k no_entry (omega arith) ∙ get_or-drop from rows k no_entry))
 
-pub sought_done : (rows : List ℕ) (places verdict from first i : ℕ) → Sought rows places verdict from first i → first ≤ i
-    → first ≡ next_place rows places verdict from
-unfolding next_place
-sought_done rows places verdict from first i so done = sym (looked_done _ places i first so.looked done)
+  passed_at : (j : ℕ) → j < from + first → passed rows verdict from j ≡ true
+  passed_at j h =
+      ⊎_elim
+      (λ (behind : from ≤ j).
+      let e : from + (j - from) ≡ j = omega arith in
+      subst (λ (n : ℕ). passed rows verdict from n ≡ true) e
+      (passed_behind (j - from) (omega (arith, first_within)) ∙ ap not (fails_before_first (is_with verdict) (rows_from rows places from) (j - from) no_entry (omega arith))))
+      (λ (before : j < from). ap (λ (b : Bool). not (b && has_verdict rows verdict j)) (lt-leb from j before))
+      (at_most_or_above from j)
 
--- ---- from one verdict to the next better one
+  not_passed : from + first < places → passed rows verdict from (from + first) ≡ false
+  not_passed h = passed_behind first h ∙ ap not (passes_at_first (is_with verdict) (rows_from rows places from) no_entry (omega (arith, long)))
 
-seek-some : (rows : List ℕ) (places verdict from : ℕ) → verdict < 6
-    → seek rows places verdict from
-    ≡ cond (ltb (next_place rows places verdict from) places) (record { verdict = verdict; place = next_place rows places verdict from })
-    (seek rows places (verdict + 1) 0)
-unfolding seek seeking
-seek-some rows places verdict from h =
-    let e : 6 - verdict ≡ suc (6 - (verdict + 1)) = omega arith in
-    ap (λ (n : ℕ). seeking rows places n verdict from) e
+  pub next_is : next_place rows places verdict from ≡ from + first
+  unfolding next_place
+  next_is = first_is (passed rows verdict from) places (from + first) (omega (arith, first_within, begun)) passed_at not_passed
 
--- one is found
-pub seek_here : (rows : List ℕ) (places verdict from : ℕ) → verdict < 6 → next_place rows places verdict from < places
-    → seek rows places verdict from ≡ record { verdict = verdict; place = next_place rows places verdict from }
-seek_here rows places verdict from h found = rw (seek-some rows places verdict from h, lt-ltb _ _ found)
+  -- what the library finds behind the place to begin at
+  pub next_found : {found : Option ℕ} → found ≡ cond (ltb first (length (rows_from rows places from))) (Some first) None
+      → option_map (λ (k : ℕ). from + k) found ≡ cond (ltb (next_place rows places verdict from) places) (Some (next_place rows places verdict from)) None
+  next_found e =
+      ap (option_map (λ (k : ℕ). from + k)) e
+      ∙ by_value
+      (λ b. option_map (λ (k : ℕ). from + k) (cond b (Some first) None) ≡ cond (ltb (from + first) places) (Some (from + first)) None)
+      (ltb first (length (rows_from rows places from)))
+      (λ t. ap (λ (b : Bool). cond b (Some (from + first)) None)
+      (sym (lt-ltb (from + first) places (omega (arith, ltb-true first (length (rows_from rows places from)) t, long)))))
+      (λ t. ap (λ (b : Bool). cond b (Some (from + first)) None)
+      (sym (le-ltb (from + first) places (omega (arith, ltb-false first (length (rows_from rows places from)) t, long, begun)))))
+      ∙ ap (λ (n : ℕ). cond (ltb n places) (Some n) None) (sym next_is)
 
--- none is found, and the next better verdict is sought
-pub seek_on : (rows : List ℕ) (places verdict from : ℕ) → verdict < 6 → places ≤ next_place rows places verdict from
-    → seek rows places verdict from ≡ seek rows places (verdict + 1) 0
-seek_on rows places verdict from h none = rw (seek-some rows places verdict from h, le-ltb _ _ none)
+-- ---- the first of some verdicts, by its next place
 
--- no verdict is left
-pub seek_none : (rows : List ℕ) (places verdict from : ℕ) → 6 ≤ verdict → seek rows places verdict from ≡ record { verdict = 6; place = places }
-unfolding seek seeking
-seek_none rows places verdict from h =
-    let e : 6 - verdict ≡ zero = omega arith in
-    ap (λ (n : ℕ). seeking rows places n verdict from) e
+-- it is found
+pub seeking_here : (rows : List Entry) (places : ℕ) (verdict : Verdict) (better : List Verdict) (from : ℕ) {next : Option ℕ} {place : ℕ}
+    → next ≡ cond (ltb (next_place rows places verdict from) places) (Some (next_place rows places verdict from)) None → next ≡ Some place
+    → Some (record { verdict = verdict; place = place }) ≡ seeking rows places (verdict ∷ better) from
+unfolding seeking
+seeking_here rows places verdict better from {place = place} e f =
+    let both = cond_some (ltb (next_place rows places verdict from) places) (next_place rows places verdict from) place (sym e ∙ f) in
+    ap (λ (p : ℕ). Some (record { verdict = verdict; place = p })) (sym both.1)
+    ∙ sym (ap (λ (b : Bool). cond b (Some (record { verdict = verdict; place = next_place rows places verdict from })) (seeking rows places better 0)) both.0)
 
--- the loop, with the next place of a verdict at hand
-pub record Seeking (rows : List ℕ) (places start from verdict place : ℕ) : Type 0 where
-  pub found : verdict < 6 → place < places → record { verdict = verdict; place = place } ≡ seek rows places start from
-  pub on : verdict < 6 → places ≤ place → seek rows places (verdict + 1) 0 ≡ seek rows places start from
-  pub none : 6 ≤ verdict → record { verdict = 6; place = places } ≡ seek rows places start from
+-- it is not, and the others are sought
+pub seeking_on : (rows : List Entry) (places : ℕ) (verdict : Verdict) (better : List Verdict) (from : ℕ) {next : Option ℕ}
+    → next ≡ cond (ltb (next_place rows places verdict from) places) (Some (next_place rows places verdict from)) None → next ≡ None
+    → seeking rows places better 0 ≡ seeking rows places (verdict ∷ better) from
+unfolding seeking
+seeking_on rows places verdict better from e f =
+    by_value
+    (λ b. cond b (Some (next_place rows places verdict from)) None ≡ None
+    → seeking rows places better 0 ≡ cond b (Some (record { verdict = verdict; place = next_place rows places verdict from })) (seeking rows places better 0))
+    (ltb (next_place rows places verdict from) places)
+    (λ t g. cc)
+    (λ t g. refl)
+    (sym e ∙ f)
 
-pub seeking-at : (rows : List ℕ) (places start from verdict next : ℕ) {place : ℕ} → place ≡ next_place rows places verdict next
-    → seek rows places verdict next ≡ seek rows places start from → Seeking rows places start from verdict place
-seeking-at rows places start from verdict next {place = place} e same =
-    record {
-      found = λ h l. ap (λ (p : ℕ). record { verdict = verdict; place = p }) e ∙ sym (seek_here rows places verdict next h (omega (arith, e))) ∙ same;
-      on = λ h l. sym (seek_on rows places verdict next h (omega (arith, e))) ∙ same;
-      none = λ h. sym (seek_none rows places verdict next h) ∙ same;
-    }
+-- ---- rows that are cut behind their places
 
--- ---- how many places there are
+cut_from : (rows : List Entry) (places from : ℕ) → from ≤ places → rows_from (take places rows) places from ≡ rows_from rows places from
+cut_from rows places from h =
+    let e : from + (places - from) ≡ places = omega arith in
+    ap (take (places - from)) (ap (λ (n : ℕ). drop from (take n rows)) (sym e) ∙ drop-take from (places - from) rows)
+    ∙ take-take (places - from) (places - from) (drop from rows) (omega arith)
 
-pub places_room : (rows : List ℕ) (listed : ℕ) {places : ℕ} → places ≡ places_in rows listed → places ≤ length rows / 7
-unfolding places_in
-places_room rows listed e = omega (arith, e)
+next_cut : (rows : List Entry) (places : ℕ) (verdict : Verdict) (from : ℕ) → from ≤ places → places ≤ length rows
+    → next_place (take places rows) places verdict from ≡ next_place rows places verdict from
+next_cut rows places verdict from begun within =
+    next_is (take places rows) places verdict from begun (omega (arith, length-take places rows, within))
+    ∙ ap (λ (l : List Entry). from + position_or_len (is_with verdict) l) (cut_from rows places from begun)
+    ∙ sym (next_is rows places verdict from begun within)
+
+seeking_cut : (rows : List Entry) (places : ℕ) (verdicts : List Verdict) (from : ℕ) → from ≤ places → places ≤ length rows
+    → seeking (take places rows) places verdicts from ≡ seeking rows places verdicts from
+unfolding seeking
+seeking_cut rows places [] from begun within = refl
+seeking_cut rows places (verdict ∷ better) from begun within =
+    ap₂ (λ (n : ℕ) (later : Option Cursor). cond (ltb n places) (Some (record { verdict = verdict; place = n })) later)
+    (next_cut rows places verdict from begun within)
+    (seeking_cut rows places better 0 (omega arith) within)
+
+-- what is sought in the cut rows is what is sought
+pub seek_cut : (rows : List Entry) (places : ℕ) (verdict : Verdict) (from : ℕ) {cut : List Entry} → cut ≡ take places rows → from ≤ places → places ≤ length rows
+    → seek cut (length cut) verdict from ≡ seek rows places verdict from
+unfolding seek
+seek_cut rows places verdict from e begun within =
+    let long : length (take places rows) ≡ places = omega (arith, length-take places rows, within) in
+    ap (λ (l : List Entry). seeking l (length l) (from_verdict verdict) from) e
+    ∙ ap (λ (n : ℕ). seeking (take places rows) n (from_verdict verdict) from) long
+    ∙ seeking_cut rows places (from_verdict verdict) from begun within
+
+-- ---- the verdicts from one on, as a part of the array
+
+pub part_from : (verdict : Verdict) → take (6 - tag_of the_type verdict) (drop (tag_of the_type verdict) worst_first) ≡ from_verdict verdict
+unfolding worst_first from_verdict verdict_number
+part_from Incomplete = refl
+part_from Refused = refl
+part_from RefusedActions = refl
+part_from Cut = refl
+part_from LocksLost = refl
+part_from TakesFailed = refl
+part_from Good = refl

@@ -6,14 +6,16 @@ use mathlib.Core.Bool.{Bool, true, false, cond}
 use mathlib.Core.List.{List, [], ◌∷◌}
 use lib.Dec.{eqb, ltb}
 use lib.ListN.{length, set}
+use Rattle.std.specs.Prelude.{Some}
 use Rattle.lists.proofs.Tests.{by_value}
 use Rattle.gather.specs.Gathering.{more}
-use Rattle.verdict.specs.declared.Watch.{Watch}
 use Rattle.verdict.specs.Verdicts.{verdict_number, start_watch, watch_byte, watch_all, judged, verdict_of}
 use Rattle.morning.specs.declared.Place.{Place}
 use Rattle.morning.specs.declared.Place.TheVariants.{LineStart, InLine, InName}
+use Rattle.morning.specs.declared.AtHand.{AtHand}
 use Rattle.morning.specs.declared.Night.{Night}
-use Rattle.morning.specs.Reading.{start_night, reading, line_byte, naming, shown, name_byte, names_after_name, counted_at, is_listed, closed_as, closed_by, closing, row_put, rows_closed_by, rows_closing, head_begun, on_line_start, rows_on_line_start, after_byte_in, after_byte, rows_after_byte_in, rows_after_byte, names_after_byte_in, names_after_byte, after_all, rows_after_all, names_after_all, end_night, rows_end_night}
+use Rattle.morning.specs.declared.Entry.{Entry}
+use Rattle.morning.specs.Reading.{start_night, hand_begun, hand_of, reading, line_byte, naming, no_room, shown, name_byte, names_after_name, counted_at, is_listed, closed_as, closed_by, closing, row_put, rows_closed_by, rows_closing, head_begun, on_line_start, rows_on_line_start, after_byte_in, after_byte, rows_after_byte_in, rows_after_byte, names_after_byte_in, names_after_byte, after_all, rows_after_all, names_after_all, end_night, rows_end_night}
 use Rattle.morning.specs.Theorems.{Schedule}
 use Rattle.morning.specs.AnyText.{Rest, at_hand, name_front, text_front, head_front, cut_at, is_none, schedules_in, night_of}
 use Rattle.morning.proofs.Laws.{byte_long, byte_names_long}
@@ -22,7 +24,7 @@ use Rattle.morning.proofs.Laws.{byte_long, byte_names_long}
 
 pub record Book : Type 0 where
   pub night : Night
-  pub rows : List ℕ
+  pub rows : List Entry
   pub names : List ℕ
 
 abbrev byted : ℕ → ℕ → Book → ℕ → Book
@@ -82,18 +84,25 @@ spelled name-room names used (byte ∷ rest) = spelled name-room (set names used
 -- ---- one schedule, and its end
 
 -- all of it is read: its name and its text, behind where the book stands
+abbrev pub whole_hand : ℕ → Book → Schedule → AtHand
+whole_hand name-room book schedule =
+    record {
+      watch = watch_all start_watch schedule.text;
+      start = book.night.used;
+      fits = name_fits name-room book.night.used true schedule.name;
+    }
+
 abbrev pub whole : ℕ → Book → Schedule → Night
 whole name-room book schedule =
-    reading LineStart (watch_all start_watch schedule.text)
-    (naming LineStart (name_end name-room book.night.used schedule.name) (name_fits name-room book.night.used true schedule.name)
-    (head_begun book.night))
+    naming LineStart (name_end name-room book.night.used schedule.name) (Some (whole_hand name-room book schedule)) book.night
 
 -- and it has ended with its verdict
 abbrev pub closed : ℕ → ℕ → Book → Schedule → Book
 closed room name-room book schedule =
+    let hand : AtHand = whole_hand name-room book schedule in
     record {
-      night = closed_by (verdict_of schedule.text) room (whole name-room book schedule);
-      rows = rows_closed_by (verdict_of schedule.text) (whole name-room book schedule) book.rows;
+      night = closed_by (verdict_of schedule.text) room hand (whole name-room book schedule);
+      rows = rows_closed_by (verdict_of schedule.text) hand (whole name-room book schedule) book.rows;
       names = spelled name-room book.names book.night.used schedule.name;
     }
 
@@ -103,31 +112,22 @@ closings room name-room book (schedule ∷ rest) = closings room name-room (clos
 
 -- ---- the schedule at hand
 
--- so much of its text is watched, and so much of its name is kept
-abbrev hand : Place → Watch → ℕ → Bool → Night → Night
-hand place watch used fits base = reading place watch (naming place used fits base)
-
 -- behind the rest of its name and of its text it has ended
-abbrev hand_closed : ℕ → ℕ → Watch → ℕ → Bool → Night → List ℕ → List ℕ → Schedule → Book
-hand_closed room name-room watch used fits base rows names schedule =
-    let all : Watch = watch_all watch schedule.text in
-    let night : Night = hand LineStart all (name_end name-room used schedule.name) (name_fits name-room used fits schedule.name) base in
-    record { night = closed_by (judged all) room night; rows = rows_closed_by (judged all) night rows; names = spelled name-room names used schedule.name }
+abbrev hand_closed : ℕ → ℕ → AtHand → ℕ → Night → List Entry → List ℕ → Schedule → Book
+hand_closed room name-room hand used base rows names schedule =
+    let whole : AtHand =
+    record { watch = watch_all hand.watch schedule.text; start = hand.start; fits = name_fits name-room used hand.fits schedule.name } in
+    let night : Night = naming LineStart (name_end name-room used schedule.name) (Some whole) base in
+    record {
+      night = closed_by (judged whole.watch) room whole night;
+      rows = rows_closed_by (judged whole.watch) whole night rows;
+      names = spelled name-room names used schedule.name;
+    }
 
 -- the end of the text; what the place is there does not matter any more
 abbrev pub at_line : Night → Night
 at_line night =
-    record {
-      place = LineStart;
-      begun = night.begun;
-      watch = night.watch;
-      start = night.start;
-      used = night.used;
-      fits = night.fits;
-      listed = night.listed;
-      unlisted = night.unlisted;
-      counts = night.counts;
-    }
+    record { place = LineStart; hand = night.hand; used = night.used; listed = night.listed; unlisted = night.unlisted; counts = night.counts }
 
 abbrev ended : ℕ → Book → Book
 ended room book = record { night = at_line (end_night room book.night); rows = rows_end_night book.night book.rows; names = book.names }
@@ -137,91 +137,95 @@ chosen : {A B : Type 0} (f : A → B) (test : Bool) (x y : A) → f (cond test x
 chosen f true x y = refl
 chosen f false x y = refl
 
-end_read : (room : ℕ) (place : Place) (watch : Watch) (used : ℕ) (fits : Bool) (base : Night)
-    → at_line (closed_by (judged watch) room (hand place watch used fits base)) ≡ closed_by (judged watch) room (hand LineStart watch used fits base)
-unfolding closed_by closed_as reading naming
-end_read room place watch used fits base =
-    let number : ℕ = verdict_number (judged watch).verdict in
+end_read : (room : ℕ) (place : Place) (hand : AtHand) (used : ℕ) (base : Night)
+    → at_line (closed_by (judged hand.watch) room hand (naming place used (Some hand) base))
+    ≡ closed_by (judged hand.watch) room hand (naming LineStart used (Some hand) base)
+unfolding closed_by closed_as naming
+end_read room place hand used base =
+    let number : ℕ = verdict_number (judged hand.watch).verdict in
     let counts : List ℕ = counted_at base.counts number in
-    let at : Night = hand place watch used fits base in
+    let at : Night = naming place used (Some hand) base in
     let listed : Night = closed_as used (base.listed + 1) base.unlisted counts at in
-    let unlisted : Night = closed_as base.start base.listed (more base.unlisted) counts at in
-    let good : Night = closed_as base.start base.listed base.unlisted counts at in
-    let test : Bool = is_listed number fits base.listed room in
+    let unlisted : Night = closed_as hand.start base.listed (more base.unlisted) counts at in
+    let good : Night = closed_as hand.start base.listed base.unlisted counts at in
+    let test : Bool = is_listed number hand.fits base.listed room in
     chosen at_line test listed (cond (ltb number 6) unlisted good) ∙ ap (cond test (at_line listed)) (chosen at_line (ltb number 6) unlisted good)
 
 -- the rest of the text: the schedule at hand ends, and those behind it
-rest_read : (room name-room : ℕ) (place : Place) (watch : Watch) (used : ℕ) (fits : Bool) (base : Night) (rows names text : List ℕ)
-    → ended room (read room name-room (record { night = hand place watch used fits base; rows = rows; names = names }) text)
-    ≡ closings room name-room (hand_closed room name-room watch used fits base rows names (at_hand (cut_at place text))) (cut_at place text).behind
-unfolding read closings name_end name_fits spelled cut_at at_hand name_front text_front head_front watch_all verdict_of reading naming line_byte closing rows_closing rows_closed_by row_put head_begun end_night rows_end_night after_byte after_byte_in on_line_start name_byte rows_after_byte rows_after_byte_in rows_on_line_start names_after_byte names_after_byte_in names_after_name
-rest_read room name-room place watch used fits base rows names [] =
-    ap (λ (night : Night). record { night = night; rows = rows_closed_by (judged watch) (hand LineStart watch used fits base) rows; names = names })
-    (end_read room place watch used fits base)
-rest_read room name-room LineStart watch used fits base rows names (byte ∷ rest) =
-    let at : Night = hand LineStart watch used fits base in
-    let after : Night = closed_by (judged watch) room at in
+rest_read : (room name-room : ℕ) (place : Place) (hand : AtHand) (used : ℕ) (base : Night) (rows : List Entry) (names text : List ℕ)
+    → ended room (read room name-room (record { night = naming place used (Some hand) base; rows = rows; names = names }) text)
+    ≡ closings room name-room (hand_closed room name-room hand used base rows names (at_hand (cut_at place text))) (cut_at place text).behind
+unfolding read closings name_end name_fits spelled cut_at at_hand name_front text_front head_front watch_all verdict_of hand_begun hand_of reading naming no_room line_byte closing rows_closing rows_closed_by row_put head_begun end_night rows_end_night after_byte after_byte_in on_line_start name_byte rows_after_byte rows_after_byte_in rows_on_line_start names_after_byte names_after_byte_in names_after_name
+rest_read room name-room place hand used base rows names [] =
+    ap (λ (night : Night). record { night = night; rows = rows_closed_by (judged hand.watch) hand (naming LineStart used (Some hand) base) rows; names = names })
+    (end_read room place hand used base)
+rest_read room name-room LineStart hand used base rows names (byte ∷ rest) =
+    let at : Night = naming LineStart used (Some hand) base in
+    let after : Night = closed_by (judged hand.watch) room hand at in
     let next : Place = cond (eqb byte 10) LineStart InLine in
+    let watched : AtHand = record { watch = watch_byte hand.watch byte; start = hand.start; fits = hand.fits } in
     by_value
     (λ (b : Bool).
-    ended room (read room name-room (record { night = cond b (head_begun after) (line_byte at byte); rows = cond b (rows_closed_by (judged watch) at rows) rows; names = names }) rest)
+    ended room (read room name-room (record { night = cond b (head_begun after) (line_byte at byte); rows = cond b (rows_closed_by (judged hand.watch) hand at rows) rows; names = names }) rest)
     ≡ (let cut : Rest = cond b (head_front (cut_at InName rest)) (text_front byte (cut_at next rest)) in
-    closings room name-room (hand_closed room name-room watch used fits base rows names (at_hand cut)) cut.behind))
+    closings room name-room (hand_closed room name-room hand used base rows names (at_hand cut)) cut.behind))
     (eqb byte 62)
-    (λ e. rest_read room name-room InName start_watch after.used true (head_begun after) (rows_closed_by (judged watch) at rows) names rest)
-    (λ e. rest_read room name-room next (watch_byte watch byte) used fits base rows names rest)
-rest_read room name-room InLine watch used fits base rows names (byte ∷ rest) =
-    rest_read room name-room (cond (eqb byte 10) LineStart InLine) (watch_byte watch byte) used fits base rows names rest
-rest_read room name-room InName watch used fits base rows names (byte ∷ rest) =
-    let at : Night = hand InName watch used fits base in
+    (λ e. rest_read room name-room InName (hand_begun after.used) after.used after (rows_closed_by (judged hand.watch) hand at rows) names rest)
+    (λ e. rest_read room name-room next watched used base rows names rest)
+rest_read room name-room InLine hand used base rows names (byte ∷ rest) =
+    rest_read room name-room (cond (eqb byte 10) LineStart InLine)
+    (record { watch = watch_byte hand.watch byte; start = hand.start; fits = hand.fits }) used base rows names rest
+rest_read room name-room InName hand used base rows names (byte ∷ rest) =
+    let at : Night = naming InName used (Some hand) base in
     by_value
     (λ (b : Bool).
     ended room
     (read room name-room
     (record {
-      night = cond b (naming LineStart used fits at) (cond (ltb used name-room) (naming InName (used + 1) fits at) (naming InName used false at));
+      night = cond b (naming LineStart used (Some hand) at) (cond (ltb used name-room) (naming InName (used + 1) (Some hand) at) (naming InName used (Some (no_room hand)) at));
       rows = rows;
       names = cond b names (set names used (shown byte));
     })
     rest)
     ≡ (let cut : Rest = cond b (cut_at LineStart rest) (name_front byte (cut_at InName rest)) in
-    closings room name-room (hand_closed room name-room watch used fits base rows names (at_hand cut)) cut.behind))
+    closings room name-room (hand_closed room name-room hand used base rows names (at_hand cut)) cut.behind))
     (eqb byte 10)
-    (λ e. rest_read room name-room LineStart watch used fits base rows names rest)
+    (λ e. rest_read room name-room LineStart hand used base rows names rest)
     (λ e. by_value
     (λ (b : Bool).
     ended room
     (read room name-room
-    (record { night = cond b (naming InName (used + 1) fits at) (naming InName used false at); rows = rows; names = set names used (shown byte) })
+    (record { night = cond b (naming InName (used + 1) (Some hand) at) (naming InName used (Some (no_room hand)) at); rows = rows; names = set names used (shown byte) })
     rest)
     ≡ closings room name-room
-    (hand_closed room name-room watch (cond b (used + 1) used) (cond b fits false) base rows (set names used (shown byte)) (at_hand (cut_at InName rest)))
+    (hand_closed room name-room (record { watch = hand.watch; start = hand.start; fits = cond b hand.fits false }) (cond b (used + 1) used) base rows (set names used (shown byte)) (at_hand (cut_at InName rest)))
     (cut_at InName rest).behind)
     (ltb used name-room)
-    (λ e. rest_read room name-room InName watch (used + 1) fits base rows (set names used (shown byte)) rest)
-    (λ e. rest_read room name-room InName watch used false base rows (set names used (shown byte)) rest))
+    (λ e. rest_read room name-room InName hand (used + 1) base rows (set names used (shown byte)) rest)
+    (λ e. rest_read room name-room InName (no_room hand) used base rows (set names used (shown byte)) rest))
 
-abbrev pub at_start : List ℕ → List ℕ → Book
+abbrev pub at_start : List Entry → List ℕ → Book
 at_start rows names = record { night = start_night; rows = rows; names = names }
 
 -- the first byte begins a schedule
-all_read : (room name-room : ℕ) (rows names text : List ℕ)
+all_read : (room name-room : ℕ) (rows : List Entry) (names text : List ℕ)
     → ended room (read room name-room (at_start rows names) text) ≡ closings room name-room (at_start rows names) (schedules_in text)
-unfolding read closings schedules_in is_none cut_at at_hand text_front head_front watch_all verdict_of reading naming line_byte closing rows_closing head_begun end_night rows_end_night start_night after_byte after_byte_in on_line_start rows_after_byte rows_after_byte_in rows_on_line_start names_after_byte names_after_byte_in
+unfolding read closings schedules_in is_none cut_at at_hand text_front head_front watch_all verdict_of hand_begun hand_of reading naming line_byte closing rows_closing head_begun end_night rows_end_night start_night after_byte after_byte_in on_line_start rows_after_byte rows_after_byte_in rows_on_line_start names_after_byte names_after_byte_in
 all_read room name-room rows names [] = refl
 all_read room name-room rows names (byte ∷ rest) =
     let next : Place = cond (eqb byte 10) LineStart InLine in
+    let hand : AtHand = hand_begun 0 in
     by_value
     (λ (b : Bool).
     ended room (read room name-room (record { night = cond b (head_begun start_night) (line_byte start_night byte); rows = cond b rows rows; names = names }) rest)
     ≡ (let cut : Rest = cond b (head_front (cut_at InName rest)) (text_front byte (cut_at next rest)) in
     closings room name-room (at_start rows names) (cond (is_none cut.text) cut.behind (at_hand cut ∷ cut.behind))))
     (eqb byte 62)
-    (λ e. rest_read room name-room InName start_watch 0 true (head_begun start_night) rows names rest)
-    (λ e. rest_read room name-room next (watch_byte start_watch byte) 0 true start_night rows names rest)
+    (λ e. rest_read room name-room InName hand 0 start_night rows names rest)
+    (λ e. rest_read room name-room next (record { watch = watch_byte start_watch byte; start = 0; fits = true }) 0 start_night rows names rest)
 
 -- at the end of the text
-pub all_told : (rows names text : List ℕ)
+pub all_told : (rows : List Entry) (names text : List ℕ)
     → record {
       night = at_line (night_of rows names text);
       rows = rows_end_night (after_all (length rows) (length names) start_night text) (rows_after_all (length names) start_night text rows);

@@ -1,10 +1,11 @@
 -- Any text whatever as the schedules of a night, cut at its head lines, and that these are the schedules that are counted and listed: also of a text that is
 -- cut off, or in which a schedule's last line lacks its newline.
-use Rattle.std.specs.Prelude.{ℕ, ◌+◌, ◌/◌, ◌^◌, ◌≤◌, ◌<◌, ◌≡◌, Bool, true, false, cond, List, [], ◌∷◌, eqb, length, get_or}
+use Rattle.std.specs.Prelude.{ℕ, ◌+◌, ◌^◌, ◌≤◌, ◌<◌, ◌≡◌, Bool, true, false, cond, List, [], ◌∷◌, eqb, length, get_or}
 use Rattle.morning.specs.declared.Place.{Place}
 use Rattle.morning.specs.declared.Place.TheVariants.{LineStart, InLine, InName}
 use Rattle.morning.specs.declared.Night.{Night}
-use Rattle.morning.specs.Reading.{row_width, start_night, after_all, rows_after_all, names_after_all, end_night, rows_end_night}
+use Rattle.morning.specs.declared.Entry.{Entry}
+use Rattle.morning.specs.Reading.{start_night, after_all, rows_after_all, names_after_all, end_night, rows_end_night}
 use Rattle.morning.specs.Theorems.{Schedule, no_schedule, Schedules, night_text, count_of, not_good, name_bytes, longest_name, RowOf}
 
 -- from a place on: what is left of the schedule at hand, its name and its text, and the schedules behind it
@@ -47,27 +48,27 @@ abbrev pub ANightIsCutIntoItsSchedules : Type 0
 ANightIsCutIntoItsSchedules = (schedules : List Schedule) → Schedules schedules → schedules_in (night_text schedules) ≡ schedules
 
 -- the night after any text, its last schedule ended
-abbrev pub night_of : List ℕ → List ℕ → List ℕ → Night
+abbrev pub night_of : List Entry → List ℕ → List ℕ → Night
 night_of rows names text = end_night (length rows) (after_all (length rows) (length names) start_night text)
 
 -- each schedule of the text is counted by its verdict, and each that is not good is listed or counted as not listed
-pub record TextCounted (rows names text : List ℕ) : Type 0 where
+pub record TextCounted (rows : List Entry) (names text : List ℕ) : Type 0 where
   pub counts : (number : ℕ) → number < 7 → get_or (night_of rows names text).counts number 0 ≡ count_of number (schedules_in text)
   pub all : (night_of rows names text).listed + (night_of rows names text).unlisted ≡ length (not_good (schedules_in text))
 
 abbrev pub EveryTextIsCounted : Type 0
-EveryTextIsCounted = (rows names text : List ℕ) → length text < 2 ^ 64 → TextCounted rows names text
+EveryTextIsCounted = (rows : List Entry) (names text : List ℕ) → length text < 2 ^ 64 → TextCounted rows names text
 
 -- the rows and the names after any text, its last schedule ended
-abbrev pub rows_of : List ℕ → List ℕ → List ℕ → List ℕ
+abbrev pub rows_of : List Entry → List ℕ → List ℕ → List Entry
 rows_of rows names text =
     rows_end_night (after_all (length rows) (length names) start_night text) (rows_after_all (length names) start_night text rows)
 
-abbrev pub names_of : List ℕ → List ℕ → List ℕ → List ℕ
+abbrev pub names_of : List Entry → List ℕ → List ℕ → List ℕ
 names_of rows names text = names_after_all (length rows) start_night text names
 
 -- where there is room, all that are not good are listed, in order, each with its row and its name
-pub record TextListed (rows names text : List ℕ) : Type 0 where
+pub record TextListed (rows : List Entry) (names text : List ℕ) : Type 0 where
   pub listed : (night_of rows names text).listed ≡ length (not_good (schedules_in text))
   pub unlisted : (night_of rows names text).unlisted ≡ 0
   pub row : (k : ℕ) → k < length (not_good (schedules_in text))
@@ -75,5 +76,5 @@ pub record TextListed (rows names text : List ℕ) : Type 0 where
 
 abbrev pub EveryTextIsListed : Type 0
 EveryTextIsListed =
-    (rows names text : List ℕ) → length (not_good (schedules_in text)) ≤ length rows / row_width
+    (rows : List Entry) (names text : List ℕ) → length (not_good (schedules_in text)) ≤ length rows
     → name_bytes (not_good (schedules_in text)) + longest_name (schedules_in text) ≤ length names → TextListed rows names text

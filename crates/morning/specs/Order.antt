@@ -1,58 +1,60 @@
 -- The listed schedules in the order of the report: by verdict, worst first, and of one verdict in the order of the text; what a row says.
-use Rattle.std.specs.Prelude.{ℕ, zero, suc, ◌+◌, ◌-◌, ◌*◌, ◌/◌, min, Bool, cond, not, ◌&&◌, List, [], ◌∷◌, ◌++◌, eqb, ltb, leb, length, get_or}
+use Rattle.std.specs.Prelude.{ℕ, zero, suc, ◌+◌, min, Bool, cond, not, ◌&&◌, List, [], ◌∷◌, ◌++◌, Option, Some, None, eqb, ltb, leb, length, get_or, drop}
 use Rattle.lists.specs.Loops.{first_not}
+use Rattle.verdict.specs.declared.Verdict.{Verdict}
+use Rattle.verdict.specs.declared.Verdict.TheVariants.{Incomplete, Refused, RefusedActions, Cut, LocksLost, TakesFailed, Good}
+use Rattle.verdict.specs.Verdicts.{verdict_number, no_notes}
 use Rattle.morning.specs.declared.Cursor.{Cursor}
 use Rattle.morning.specs.declared.Entry.{Entry}
-use Rattle.morning.specs.Reading.{row_width, good_number}
 
 -- ---- a row
 
 -- what no row says
 unfoldable pub no_entry : Entry
-no_entry = record { verdict = good_number; count = 0; steps = 0; first = 0; second = 0; start = 0; end = 0 }
+no_entry = record { verdict = Good; noted = no_notes; start = 0; end = 0 }
 
 -- what the row at a place says
-unfoldable pub entry_at : List ℕ → ℕ → Entry
-entry_at rows place =
-    cond (ltb place (length rows / row_width))
-    (record {
-      verdict = get_or rows (place * row_width) 0;
-      count = get_or rows (place * row_width + 1) 0;
-      steps = get_or rows (place * row_width + 2) 0;
-      first = get_or rows (place * row_width + 3) 0;
-      second = get_or rows (place * row_width + 4) 0;
-      start = get_or rows (place * row_width + 5) 0;
-      end = get_or rows (place * row_width + 6) 0;
-    })
-    no_entry
+unfoldable pub entry_at : List Entry → ℕ → Entry
+entry_at rows place = get_or rows place no_entry
 
 -- ---- from one to the next
 
 -- how many of the listed schedules have a row
-unfoldable pub places_in : List ℕ → ℕ → ℕ
-places_in rows listed = min listed (length rows / row_width)
+unfoldable pub places_in : List Entry → ℕ → ℕ
+places_in rows listed = min listed (length rows)
 
-unfoldable pub has_verdict : List ℕ → ℕ → ℕ → Bool
-has_verdict rows verdict place = eqb (get_or rows (place * row_width) 0) verdict
+unfoldable pub is_with : Verdict → Entry → Bool
+is_with verdict entry = eqb (verdict_number entry.verdict) (verdict_number verdict)
+
+unfoldable pub has_verdict : List Entry → Verdict → ℕ → Bool
+has_verdict rows verdict place = is_with verdict (entry_at rows place)
 
 -- the first place from one on whose row has a verdict; the number of places where there is none
-unfoldable pub next_place : List ℕ → ℕ → ℕ → ℕ → ℕ
+unfoldable pub next_place : List Entry → ℕ → Verdict → ℕ → ℕ
 next_place rows places verdict from = first_not (λ place. not (leb from place && has_verdict rows verdict place)) places
 
--- with a verdict from a place on, or else with one of so many better verdicts
-unfoldable pub seeking : List ℕ → ℕ → ℕ → ℕ → ℕ → Cursor
-seeking rows places zero verdict from = record { verdict = good_number; place = places }
-seeking rows places (suc better) verdict from =
-    cond (ltb (next_place rows places verdict from) places) (record { verdict = verdict; place = next_place rows places verdict from })
-    (seeking rows places better (verdict + 1) 0)
+-- the verdicts that are listed, worst first
+unfoldable pub worst_first : List Verdict
+worst_first = Incomplete ∷ Refused ∷ RefusedActions ∷ Cut ∷ LocksLost ∷ TakesFailed ∷ []
 
-unfoldable pub seek : List ℕ → ℕ → ℕ → ℕ → Cursor
-seek rows places verdict from = seeking rows places (good_number - verdict) verdict from
+-- those from one on
+unfoldable pub from_verdict : Verdict → List Verdict
+from_verdict verdict = drop (verdict_number verdict) worst_first
 
-unfoldable pub first_entry : List ℕ → ℕ → Cursor
-first_entry rows listed = seek rows (places_in rows listed) 0 0
+-- with the first of these verdicts from a place on, or else with one of the others; none
+unfoldable pub seeking : List Entry → ℕ → List Verdict → ℕ → Option Cursor
+seeking rows places [] from = None
+seeking rows places (verdict ∷ better) from =
+    cond (ltb (next_place rows places verdict from) places) (Some (record { verdict = verdict; place = next_place rows places verdict from }))
+    (seeking rows places better 0)
 
-unfoldable pub next_entry : List ℕ → ℕ → Cursor → Cursor
+unfoldable pub seek : List Entry → ℕ → Verdict → ℕ → Option Cursor
+seek rows places verdict from = seeking rows places (from_verdict verdict) from
+
+unfoldable pub first_entry : List Entry → ℕ → Option Cursor
+first_entry rows listed = seek rows (places_in rows listed) Incomplete 0
+
+unfoldable pub next_entry : List Entry → ℕ → Cursor → Option Cursor
 next_entry rows listed cursor =
     cond (ltb cursor.place (places_in rows listed)) (seek rows (places_in rows listed) cursor.verdict (cursor.place + 1))
     (seek rows (places_in rows listed) cursor.verdict (places_in rows listed))
@@ -60,21 +62,21 @@ next_entry rows listed cursor =
 -- ---- the whole order
 
 -- of one verdict, the places ascending
-unfoldable pub entries_of : List ℕ → ℕ → ℕ → List Cursor
+unfoldable pub entries_of : List Entry → Verdict → ℕ → List Cursor
 entries_of rows verdict zero = []
 entries_of rows verdict (suc places) =
     entries_of rows verdict places ++ cond (has_verdict rows verdict places) (record { verdict = verdict; place = places } ∷ []) []
 
--- so many verdicts from this one on, in order
-unfoldable pub entries_from : List ℕ → ℕ → ℕ → ℕ → List Cursor
-entries_from rows places zero verdict = []
-entries_from rows places (suc more) verdict = entries_of rows verdict places ++ entries_from rows places more (verdict + 1)
+-- of these verdicts, in order
+unfoldable pub entries_from : List Entry → ℕ → List Verdict → List Cursor
+entries_from rows places [] = []
+entries_from rows places (verdict ∷ better) = entries_of rows verdict places ++ entries_from rows places better
 
-unfoldable pub report_order : List ℕ → ℕ → List Cursor
-report_order rows listed = entries_from rows (places_in rows listed) good_number 0
+unfoldable pub report_order : List Entry → ℕ → List Cursor
+report_order rows listed = entries_from rows (places_in rows listed) worst_first
 
 -- those that are met, from one on, so many at most
-unfoldable pub visited : List ℕ → ℕ → Cursor → ℕ → List Cursor
+unfoldable pub visited : List Entry → ℕ → Option Cursor → ℕ → List Cursor
 visited rows listed cursor zero = []
-visited rows listed cursor (suc most) =
-    cond (ltb cursor.verdict good_number) (cursor ∷ visited rows listed (next_entry rows listed cursor) most) []
+visited rows listed None (suc most) = []
+visited rows listed (Some cursor) (suc most) = cursor ∷ visited rows listed (next_entry rows listed cursor) most

@@ -1,18 +1,16 @@
 -- The text of a night, read byte by byte. A line that begins with `>` is a head line: the rest of it names a schedule's file, and the lines behind it, up to
 -- the next head line, are the schedule's text (lines before the first head line are those of a schedule without a name). Each schedule is counted by
--- its verdict, and one that is not good is listed: a row of seven numbers, and its name.
-use Rattle.std.specs.Prelude.{ℕ, ◌+◌, ◌*◌, ◌/◌, Bool, true, false, cond, ◌&&◌, List, [], ◌∷◌, eqb, ltb, length, get_or, replicate, set}
+-- its verdict, and one that is not good is listed: a row, and its name.
+use Rattle.std.specs.Prelude.{ℕ, ◌+◌, Bool, true, false, cond, ◌&&◌, List, [], ◌∷◌, Option, Some, None, unwrap_or, option_map, eqb, ltb, length, get_or, replicate, set}
 use Rattle.gather.specs.Gathering.{more}
 use Rattle.verdict.specs.declared.Watch.{Watch}
 use Rattle.verdict.specs.declared.Judged.{Judged}
 use Rattle.verdict.specs.Verdicts.{verdict_number, start_watch, watch_byte, judged}
 use Rattle.morning.specs.declared.Place.{Place}
 use Rattle.morning.specs.declared.Place.TheVariants.{LineStart, InLine, InName}
+use Rattle.morning.specs.declared.AtHand.{AtHand}
 use Rattle.morning.specs.declared.Night.{Night}
-
--- the numbers of a row: the verdict's; how many lines decide it, the first one's steps and two numbers; where the name starts and ends
-abbrev pub row_width : ℕ
-row_width = 7
+use Rattle.morning.specs.declared.Entry.{Entry}
 
 -- the number of the verdict that is not listed: good
 abbrev pub good_number : ℕ
@@ -20,18 +18,15 @@ good_number = 6
 
 -- at the start of the text
 unfoldable pub start_night : Night
-start_night =
-    record {
-      place = LineStart;
-      begun = false;
-      watch = start_watch;
-      start = 0;
-      used = 0;
-      fits = true;
-      listed = 0;
-      unlisted = 0;
-      counts = replicate 7 0;
-    }
+start_night = record { place = LineStart; hand = None; used = 0; listed = 0; unlisted = 0; counts = replicate 7 0 }
+
+-- a schedule begins: its name starts where the names end
+unfoldable pub hand_begun : ℕ → AtHand
+hand_begun used = record { watch = start_watch; start = used; fits = true }
+
+-- the schedule at hand; where there is none, one begins
+unfoldable pub hand_of : Night → AtHand
+hand_of night = unwrap_or night.hand (hand_begun night.used)
 
 -- ---- a schedule's text
 
@@ -40,35 +35,33 @@ unfoldable pub reading : Place → Watch → Night → Night
 reading place watch night =
     record {
       place = place;
-      begun = true;
-      watch = watch;
-      start = night.start;
+      hand = Some (record { watch = watch; start = (hand_of night).start; fits = (hand_of night).fits });
       used = night.used;
-      fits = night.fits;
       listed = night.listed;
       unlisted = night.unlisted;
       counts = night.counts;
     }
 
 unfoldable pub line_byte : Night → ℕ → Night
-line_byte night byte = reading (cond (eqb byte 10) LineStart InLine) (watch_byte night.watch byte) night
+line_byte night byte = reading (cond (eqb byte 10) LineStart InLine) (watch_byte (hand_of night).watch byte) night
 
 -- ---- a schedule's name
 
--- the place, where the names end, and whether there was room for this one
-unfoldable pub naming : Place → ℕ → Bool → Night → Night
-naming place used fits night =
+-- the place, where the names end, and the schedule at hand, with whether there was room for its name
+unfoldable pub naming : Place → ℕ → Option AtHand → Night → Night
+naming place used hand night =
     record {
       place = place;
-      begun = night.begun;
-      watch = night.watch;
-      start = night.start;
+      hand = hand;
       used = used;
-      fits = fits;
       listed = night.listed;
       unlisted = night.unlisted;
       counts = night.counts;
     }
+
+-- there was no room
+unfoldable pub no_room : AtHand → AtHand
+no_room hand = record { watch = hand.watch; start = hand.start; fits = false }
 
 -- a byte of a name as it is shown: a question mark for a control byte
 unfoldable pub shown : ℕ → ℕ
@@ -77,8 +70,8 @@ shown byte = cond (ltb byte 32) 63 (cond (eqb byte 127) 63 byte)
 -- it is kept where the names end, if there is room for so many bytes
 unfoldable pub name_byte : ℕ → Night → ℕ → Night
 name_byte room night byte =
-    cond (eqb byte 10) (naming LineStart night.used night.fits night)
-    (cond (ltb night.used room) (naming InName (night.used + 1) night.fits night) (naming InName night.used false night))
+    cond (eqb byte 10) (naming LineStart night.used night.hand night)
+    (cond (ltb night.used room) (naming InName (night.used + 1) night.hand night) (naming InName night.used (option_map no_room night.hand) night))
 
 unfoldable pub names_after_name : Night → ℕ → List ℕ → List ℕ
 names_after_name night byte names = cond (eqb byte 10) names (set names night.used (shown byte))
@@ -89,9 +82,9 @@ names_after_name night byte names = cond (eqb byte 10) names (set names night.us
 unfoldable pub counted_at : List ℕ → ℕ → List ℕ
 counted_at counts number = set counts number (more (get_or counts number 0))
 
--- whether rows of so many numbers have room for one more row, and the name had room
+-- whether so many rows have room for one more, and the name had room
 unfoldable pub has_room : Bool → ℕ → ℕ → Bool
-has_room fits listed room = fits && ltb listed (room / row_width)
+has_room fits listed room = fits && ltb listed room
 
 unfoldable pub is_listed : ℕ → Bool → ℕ → ℕ → Bool
 is_listed number fits listed room = ltb number good_number && has_room fits listed room
@@ -101,49 +94,38 @@ unfoldable pub closed_as : ℕ → ℕ → ℕ → List ℕ → Night → Night
 closed_as used listed unlisted counts night =
     record {
       place = night.place;
-      begun = false;
-      watch = night.watch;
-      start = used;
+      hand = None;
       used = used;
-      fits = true;
       listed = listed;
       unlisted = unlisted;
       counts = counts;
     }
 
 -- with this verdict: listed; or not good and not listed, for want of room; or good. The name of one that is not listed is forgotten
-unfoldable pub closed_by : Judged → ℕ → Night → Night
-closed_by j room night =
-    cond (is_listed (verdict_number j.verdict) night.fits night.listed room)
+unfoldable pub closed_by : Judged → ℕ → AtHand → Night → Night
+closed_by j room hand night =
+    cond (is_listed (verdict_number j.verdict) hand.fits night.listed room)
     (closed_as night.used (night.listed + 1) night.unlisted (counted_at night.counts (verdict_number j.verdict)) night)
     (cond (ltb (verdict_number j.verdict) good_number)
-    (closed_as night.start night.listed (more night.unlisted) (counted_at night.counts (verdict_number j.verdict)) night)
-    (closed_as night.start night.listed night.unlisted (counted_at night.counts (verdict_number j.verdict)) night))
+    (closed_as hand.start night.listed (more night.unlisted) (counted_at night.counts (verdict_number j.verdict)) night)
+    (closed_as hand.start night.listed night.unlisted (counted_at night.counts (verdict_number j.verdict)) night))
 
 -- if a schedule is at hand
-unfoldable pub closing : Bool → ℕ → Night → Night
-closing begun room night = cond begun (closed_by (judged night.watch) room night) night
+unfoldable pub closing : Option AtHand → ℕ → Night → Night
+closing None room night = night
+closing (Some hand) room night = closed_by (judged hand.watch) room hand night
 
-unfoldable pub row_put : Judged → Night → List ℕ → List ℕ
-row_put j night rows =
-    set
-    (set
-    (set
-    (set
-    (set
-    (set (set rows (night.listed * row_width) (verdict_number j.verdict)) (night.listed * row_width + 1) j.noted.count)
-    (night.listed * row_width + 2) j.noted.steps)
-    (night.listed * row_width + 3) j.noted.first)
-    (night.listed * row_width + 4) j.noted.second)
-    (night.listed * row_width + 5) night.start)
-    (night.listed * row_width + 6) night.used
+-- the row: the verdict; how many lines decide it, the first one's steps and two numbers; where the name starts and ends
+unfoldable pub row_put : Judged → AtHand → Night → List Entry → List Entry
+row_put j hand night rows = set rows night.listed (record { verdict = j.verdict; noted = j.noted; start = hand.start; end = night.used })
 
-unfoldable pub rows_closed_by : Judged → Night → List ℕ → List ℕ
-rows_closed_by j night rows =
-    cond (is_listed (verdict_number j.verdict) night.fits night.listed (length rows)) (row_put j night rows) rows
+unfoldable pub rows_closed_by : Judged → AtHand → Night → List Entry → List Entry
+rows_closed_by j hand night rows =
+    cond (is_listed (verdict_number j.verdict) hand.fits night.listed (length rows)) (row_put j hand night rows) rows
 
-unfoldable pub rows_closing : Bool → Night → List ℕ → List ℕ
-rows_closing begun night rows = cond begun (rows_closed_by (judged night.watch) night rows) rows
+unfoldable pub rows_closing : Option AtHand → Night → List Entry → List Entry
+rows_closing None night rows = rows
+rows_closing (Some hand) night rows = rows_closed_by (judged hand.watch) hand night rows
 
 -- ---- one byte more
 
@@ -152,11 +134,8 @@ unfoldable pub head_begun : Night → Night
 head_begun night =
     record {
       place = InName;
-      begun = true;
-      watch = start_watch;
-      start = night.used;
+      hand = Some (hand_begun night.used);
       used = night.used;
-      fits = true;
       listed = night.listed;
       unlisted = night.unlisted;
       counts = night.counts;
@@ -164,12 +143,12 @@ head_begun night =
 
 -- at the start of a line `>` begins a head line, and ends the schedule before it
 unfoldable pub on_line_start : ℕ → Night → ℕ → Night
-on_line_start room night byte = cond (eqb byte 62) (head_begun (closing night.begun room night)) (line_byte night byte)
+on_line_start room night byte = cond (eqb byte 62) (head_begun (closing night.hand room night)) (line_byte night byte)
 
-unfoldable pub rows_on_line_start : Night → ℕ → List ℕ → List ℕ
-rows_on_line_start night byte rows = cond (eqb byte 62) (rows_closing night.begun night rows) rows
+unfoldable pub rows_on_line_start : Night → ℕ → List Entry → List Entry
+rows_on_line_start night byte rows = cond (eqb byte 62) (rows_closing night.hand night rows) rows
 
--- rows of so many numbers, names of so many bytes
+-- so many rows, names of so many bytes
 unfoldable pub after_byte_in : Place → ℕ → ℕ → Night → ℕ → Night
 after_byte_in LineStart room name_room night byte = on_line_start room night byte
 after_byte_in InLine room name_room night byte = line_byte night byte
@@ -178,12 +157,12 @@ after_byte_in InName room name_room night byte = name_byte name_room night byte
 unfoldable pub after_byte : ℕ → ℕ → Night → ℕ → Night
 after_byte room name_room night byte = after_byte_in night.place room name_room night byte
 
-unfoldable pub rows_after_byte_in : Place → Night → ℕ → List ℕ → List ℕ
+unfoldable pub rows_after_byte_in : Place → Night → ℕ → List Entry → List Entry
 rows_after_byte_in LineStart night byte rows = rows_on_line_start night byte rows
 rows_after_byte_in InLine night byte rows = rows
 rows_after_byte_in InName night byte rows = rows
 
-unfoldable pub rows_after_byte : Night → ℕ → List ℕ → List ℕ
+unfoldable pub rows_after_byte : Night → ℕ → List Entry → List Entry
 rows_after_byte night byte rows = rows_after_byte_in night.place night byte rows
 
 unfoldable pub names_after_byte_in : Place → Night → ℕ → List ℕ → List ℕ
@@ -199,7 +178,7 @@ unfoldable pub after_all : ℕ → ℕ → Night → List ℕ → Night
 after_all room name_room night [] = night
 after_all room name_room night (byte ∷ rest) = after_all room name_room (after_byte room name_room night byte) rest
 
-unfoldable pub rows_after_all : ℕ → Night → List ℕ → List ℕ → List ℕ
+unfoldable pub rows_after_all : ℕ → Night → List ℕ → List Entry → List Entry
 rows_after_all name_room night [] rows = rows
 rows_after_all name_room night (byte ∷ rest) rows =
     rows_after_all name_room (after_byte (length rows) name_room night byte) rest (rows_after_byte night byte rows)
@@ -212,7 +191,7 @@ names_after_all room night (byte ∷ rest) names =
 -- ---- the end of the text
 
 unfoldable pub end_night : ℕ → Night → Night
-end_night room night = closing night.begun room night
+end_night room night = closing night.hand room night
 
-unfoldable pub rows_end_night : Night → List ℕ → List ℕ
-rows_end_night night rows = rows_closing night.begun night rows
+unfoldable pub rows_end_night : Night → List Entry → List Entry
+rows_end_night night rows = rows_closing night.hand night rows

@@ -1,16 +1,17 @@
 -- What proofs/ proves of a night's text, as sentences: in whatever pieces it comes the same is told; each schedule is counted by its verdict, and listed where
 -- it is not good and there is room; and the report goes through the listed ones worst first, each once.
-use Rattle.std.specs.Prelude.{ℕ, ◌+◌, ◌/◌, ◌^◌, ◌≤◌, ◌<◌, max, ◌≡◌, Bool, true, false, cond, not, ◌&&◌, List, [], ◌∷◌, ◌++◌, map, eqb, length, get_or, take, drop}
+use Rattle.std.specs.Prelude.{ℕ, ◌+◌, ◌^◌, ◌≤◌, ◌<◌, max, ◌≡◌, Bool, true, false, cond, not, ◌&&◌, List, [], ◌∷◌, ◌++◌, map, eqb, length, get_or, take, drop}
 use Rattle.verdict.specs.declared.Verdict.{Verdict}
 use Rattle.verdict.specs.declared.Verdict.TheVariants.{Incomplete, Refused, RefusedActions, Cut, LocksLost, TakesFailed, Good}
 use Rattle.verdict.specs.Verdicts.{verdict_number, verdict_of}
 use Rattle.morning.specs.declared.Night.{Night}
-use Rattle.morning.specs.Reading.{row_width, start_night, shown, after_all, rows_after_all, names_after_all, end_night, rows_end_night}
+use Rattle.morning.specs.declared.Entry.{Entry}
+use Rattle.morning.specs.Reading.{start_night, shown, after_all, rows_after_all, names_after_all, end_night, rows_end_night}
 use Rattle.morning.specs.Order.{entry_at, first_entry, report_order, visited}
 
 -- ---- the pieces do not matter
 
-pub record SameInPieces (night : Night) (piece rest rows names : List ℕ) : Type 0 where
+pub record SameInPieces (night : Night) (piece rest : List ℕ) (rows : List Entry) (names : List ℕ) : Type 0 where
   pub stands : after_all (length rows) (length names) night (piece ++ rest)
       ≡ after_all (length rows) (length names) (after_all (length rows) (length names) night piece) rest
   pub told : rows_after_all (length names) night (piece ++ rest) rows
@@ -19,7 +20,7 @@ pub record SameInPieces (night : Night) (piece rest rows names : List ℕ) : Typ
       ≡ names_after_all (length rows) (after_all (length rows) (length names) night piece) rest (names_after_all (length rows) night piece names)
 
 abbrev pub ThePiecesDoNotMatter : Type 0
-ThePiecesDoNotMatter = (night : Night) (piece rest rows names : List ℕ) → SameInPieces night piece rest rows names
+ThePiecesDoNotMatter = (night : Night) (piece rest : List ℕ) (rows : List Entry) (names : List ℕ) → SameInPieces night piece rest rows names
 
 -- ---- the schedules of a night
 
@@ -86,38 +87,38 @@ name_bytes [] = 0
 name_bytes (schedule ∷ rest) = length schedule.name + name_bytes rest
 
 -- the row of a schedule: its verdict, what that rests on, and its name as it is shown
-pub record RowOf (rows names : List ℕ) (k : ℕ) (schedule : Schedule) : Type 0 where
-  pub verdict : (entry_at rows k).verdict ≡ number_of schedule
-  pub count : (entry_at rows k).count ≡ (verdict_of schedule.text).noted.count
-  pub steps : (entry_at rows k).steps ≡ (verdict_of schedule.text).noted.steps
-  pub first : (entry_at rows k).first ≡ (verdict_of schedule.text).noted.first
-  pub second : (entry_at rows k).second ≡ (verdict_of schedule.text).noted.second
+pub record RowOf (rows : List Entry) (names : List ℕ) (k : ℕ) (schedule : Schedule) : Type 0 where
+  pub verdict : (entry_at rows k).verdict ≡ (verdict_of schedule.text).verdict
+  pub count : (entry_at rows k).noted.count ≡ (verdict_of schedule.text).noted.count
+  pub steps : (entry_at rows k).noted.steps ≡ (verdict_of schedule.text).noted.steps
+  pub first : (entry_at rows k).noted.first ≡ (verdict_of schedule.text).noted.first
+  pub second : (entry_at rows k).noted.second ≡ (verdict_of schedule.text).noted.second
   pub long : (entry_at rows k).end ≡ (entry_at rows k).start + length schedule.name
   pub inside : (entry_at rows k).end ≤ length names
   pub name : take (length schedule.name) (drop (entry_at rows k).start names) ≡ map shown schedule.name
 
 -- at the end of the text: as `after_all` leaves the state, the rows and the names, and the last schedule ended
-abbrev pub night_after : List ℕ → List ℕ → List Schedule → Night
+abbrev pub night_after : List Entry → List ℕ → List Schedule → Night
 night_after rows names schedules = end_night (length rows) (after_all (length rows) (length names) start_night (night_text schedules))
 
-abbrev pub rows_after : List ℕ → List ℕ → List Schedule → List ℕ
+abbrev pub rows_after : List Entry → List ℕ → List Schedule → List Entry
 rows_after rows names schedules =
     rows_end_night (after_all (length rows) (length names) start_night (night_text schedules)) (rows_after_all (length names) start_night (night_text schedules) rows)
 
-abbrev pub names_after : List ℕ → List ℕ → List Schedule → List ℕ
+abbrev pub names_after : List Entry → List ℕ → List Schedule → List ℕ
 names_after rows names schedules = names_after_all (length rows) start_night (night_text schedules) names
 
 -- with whatever room, every schedule is counted by its verdict, and those that are not good are listed or counted as not listed
-pub record Counted (rows names : List ℕ) (schedules : List Schedule) : Type 0 where
+pub record Counted (rows : List Entry) (names : List ℕ) (schedules : List Schedule) : Type 0 where
   pub counts : (number : ℕ) → number < 7 → get_or (night_after rows names schedules).counts number 0 ≡ count_of number schedules
   pub all : (night_after rows names schedules).listed + (night_after rows names schedules).unlisted ≡ length (not_good schedules)
 
 abbrev pub EveryScheduleIsCounted : Type 0
 EveryScheduleIsCounted =
-    (rows names : List ℕ) (schedules : List Schedule) → Schedules schedules → length schedules < 2 ^ 64 → Counted rows names schedules
+    (rows : List Entry) (names : List ℕ) (schedules : List Schedule) → Schedules schedules → length schedules < 2 ^ 64 → Counted rows names schedules
 
 -- where there is room for the rows and names of those that are not good, and for one name more, all that are not good are listed, in order, each with its row and its name
-pub record Listed (rows names : List ℕ) (schedules : List Schedule) : Type 0 where
+pub record Listed (rows : List Entry) (names : List ℕ) (schedules : List Schedule) : Type 0 where
   pub listed : (night_after rows names schedules).listed ≡ length (not_good schedules)
   pub unlisted : (night_after rows names schedules).unlisted ≡ 0
   pub row : (k : ℕ) → k < length (not_good schedules)
@@ -125,11 +126,11 @@ pub record Listed (rows names : List ℕ) (schedules : List Schedule) : Type 0 w
 
 abbrev pub AllAreListed : Type 0
 AllAreListed =
-    (rows names : List ℕ) (schedules : List Schedule) → Schedules schedules → length (not_good schedules) ≤ length rows / row_width
+    (rows : List Entry) (names : List ℕ) (schedules : List Schedule) → Schedules schedules → length (not_good schedules) ≤ length rows
     → name_bytes (not_good schedules) + longest_name schedules ≤ length names → Listed rows names schedules
 
 -- ---- the order of the report
 
 -- going from the first listed schedule to the next, each is met once: by verdict, worst first, and of one verdict in the order of the text
 abbrev pub WorstFirst : Type 0
-WorstFirst = (rows : List ℕ) (listed most : ℕ) → listed < most → visited rows listed (first_entry rows listed) most ≡ report_order rows listed
+WorstFirst = (rows : List Entry) (listed most : ℕ) → listed < most → visited rows listed (first_entry rows listed) most ≡ report_order rows listed

@@ -1,119 +1,98 @@
 // The listed schedules in the order of the report: worst first, and of one verdict in the order of the text.
-ghost use Rattle.std.specs.Prelude.{◌/◌, ◌≤◌, ◌≡◌, length, get_or};
-ghost use Rattle.morning.specs.Order.{no_entry, entry_at, places_in, next_place, seek, first_entry, next_entry};
+#![tactic(auto, unfolding(crate::specs::Order::no_entry, crate::specs::Order::entry_at, crate::specs::Order::places_in, crate::specs::Order::seek, crate::specs::Order::first_entry, crate::specs::Order::next_entry))]
 
-use crate::{Cursor, Entry, ROW_WIDTH};
+ghost use Rattle.std.specs.Prelude.{◌≤◌, ◌≡◌, cond, ltb, Some, None, length, take};
+ghost use Rattle.morning.specs.Order.{no_entry, entry_at, places_in, next_place, seeking, seek, first_entry, next_entry};
 
-// The number at a place of the rows; 0 past their end.
-fn number_at(rows: &[u64], at: usize) -> u64
-    ensures { result ≡ get_or rows.now at 0 }
-{
-    if at < rows.len() {
-        return rows[at];
-    }
-    0
-}
+use crate::{Cursor, Entry};
+use verdict::{Noted, Verdict};
 
 // What no row says.
-fn no_entry() -> Entry
-    ensures { result ≡ no_entry }
-{
-    Entry {
-        verdict: 6,
+pub const NO_ENTRY: Entry = Entry {
+    verdict: Verdict::Good,
+    noted: Noted {
         count: 0,
         steps: 0,
         first: 0,
         second: 0,
-        start: 0,
-        end: 0,
-    }
-}
+    },
+    start: 0,
+    end: 0,
+};
 
-// What the row at a place says.
-pub fn entry_at(rows: &[u64], place: usize) -> Entry
+// The verdicts that are listed, worst first.
+const WORST_FIRST: [Verdict; 6] = [
+    Verdict::Incomplete,
+    Verdict::Refused,
+    Verdict::RefusedActions,
+    Verdict::Cut,
+    Verdict::LocksLost,
+    Verdict::TakesFailed,
+];
+
+// What the row at a place says; of a place without a row what no row says, as is promised of every place.
+pub fn entry_at(rows: &[Entry], place: usize) -> Entry
     ensures { result ≡ entry_at rows.now place }
 {
-    if place < rows.len() / ROW_WIDTH {
-        let at = place * ROW_WIDTH;
-        return Entry {
-            verdict: number_at(rows, at),
-            count: number_at(rows, at + 1),
-            steps: number_at(rows, at + 2),
-            first: number_at(rows, at + 3),
-            second: number_at(rows, at + 4),
-            start: number_at(rows, at + 5),
-            end: number_at(rows, at + 6),
-        };
-    }
-    no_entry()
+    rows.get(place).copied().unwrap_or(NO_ENTRY)
 }
 
-// How many of the listed schedules have a row.
-fn places_in(rows: &[u64], listed: usize) -> usize
-    ensures { result ≡ places_in rows.now listed }
+// The rows of the listed schedules that have one.
+fn listed_rows(rows: &[Entry], listed: usize) -> &[Entry]
+    ensures { result.now ≡ take (places_in rows.now listed) rows.now }
 {
-    let room = rows.len() / ROW_WIDTH;
-    if listed < room {
-        return listed;
-    }
-    room
+    &rows[..listed.min(rows.len())]
 }
 
-// The first place from one on whose row has a verdict; the number of places where there is none.
-fn next_place(rows: &[u64], places: usize, verdict: u64, from: usize) -> usize
-    requires { places ≤ length rows.now / 7 }
-    ensures { result ≡ next_place rows.now places verdict from }
+// The first place from one on whose row has a verdict.
+fn next_place(rows: &[Entry], verdict: Verdict, from: usize) -> Option<usize>
+    requires { from ≤ length rows.now }
+    ensures { let places = length rows.now in result ≡ cond (ltb (next_place rows.now places verdict from) places) (Some (next_place rows.now places verdict from)) None }
 {
-    let mut first = places;
-    let mut i = from;
-    while i < first {
-        if rows[i * ROW_WIDTH] == verdict {
-            first = i;
-            i += 1;
-        } else {
-            i += 1;
+    let behind = rows[from..]
+        .iter()
+        .position(|entry| entry.verdict == verdict)?;
+    Some(from + behind)
+}
+
+// The first listed schedule with the first of some verdicts from a place on, or else with one of the others.
+fn seeking(rows: &[Entry], verdicts: &[Verdict], from: usize) -> Option<Cursor>
+    requires { from ≤ length rows.now }
+    ensures { result ≡ seeking rows.now (length rows.now) verdicts.now from }
+{
+    let mut next = from;
+    for &verdict in verdicts {
+        if let Some(place) = next_place(rows, verdict, next) {
+            return Some(Cursor { verdict, place });
         }
+        next = 0;
     }
-    first
+    None
 }
 
-// The first listed schedule with a verdict from a place on, or else with a better verdict; verdict 6 where there is none.
-fn seek(rows: &[u64], places: usize, start: u64, from: usize) -> Cursor
-    requires { places ≤ length rows.now / 7 }
-    ensures { result ≡ seek rows.now places start from }
+// The first listed schedule with a verdict from a place on, or else with a better verdict.
+fn seek(rows: &[Entry], verdict: Verdict, from: usize) -> Option<Cursor>
+    requires { from ≤ length rows.now }
+    ensures { result ≡ seek rows.now (length rows.now) verdict from }
 {
-    let mut verdict = start;
-    let mut place = next_place(rows, places, verdict, from);
-    while verdict < 6 {
-        if place < places {
-            return Cursor {
-                verdict: verdict,
-                place: place,
-            };
-        }
-        verdict += 1;
-        place = next_place(rows, places, verdict, 0);
-    }
-    Cursor {
-        verdict: 6,
-        place: places,
-    }
+    seeking(rows, &WORST_FIRST[verdict as usize..], from)
 }
 
-// The first listed schedule in the order of the report; verdict 6 where there is none.
-pub fn first_entry(rows: &[u64], listed: usize) -> Cursor
+// The first listed schedule in the order of the report.
+pub fn first_entry(rows: &[Entry], listed: usize) -> Option<Cursor>
     ensures { result ≡ first_entry rows.now listed }
 {
-    seek(rows, places_in(rows, listed), 0, 0)
+    seek(listed_rows(rows, listed), Verdict::Incomplete, 0)
 }
 
-// The one behind it; verdict 6 where there is none.
-pub fn next_entry(rows: &[u64], listed: usize, cursor: Cursor) -> Cursor
+// The one behind it.
+pub fn next_entry(rows: &[Entry], listed: usize, cursor: Cursor) -> Option<Cursor>
     ensures { result ≡ next_entry rows.now listed cursor }
 {
-    let places = places_in(rows, listed);
-    if cursor.place < places {
-        return seek(rows, places, cursor.verdict, cursor.place + 1);
-    }
-    seek(rows, places, cursor.verdict, places)
+    let rows = listed_rows(rows, listed);
+    seek(
+        rows,
+        cursor.verdict,
+        cursor.place.saturating_add(1).min(rows.len()),
+    )
 }

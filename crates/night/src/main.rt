@@ -22,8 +22,7 @@ fn write_lines<W: Write>(out: &mut W, start: Run, schedule: &[u8]) -> Result<()>
     let mut run = start;
     loop {
         let filled = run::fill(run, schedule, NIGHT_CEILING, &mut buffer);
-        let used = filled.used;
-        out.write_all(&buffer[..used])?;
+        out.write_all(&buffer[..filled.used])?;
         run = filled.run;
         if run.over {
             return Ok(());
@@ -32,11 +31,11 @@ fn write_lines<W: Write>(out: &mut W, start: Run, schedule: &[u8]) -> Result<()>
 }
 
 // Writes the lines of a night file.
+#[tactic(auto, unfolding(run::specs::Outcomes::file_text, run::specs::Outcomes::file_course))]
 fn write_file<W: Write>(out: &mut W, file: &[u8]) -> Result<()>
     ensures { OnOk result (Appends (W.contents out.old) (W.contents out.new) (file_text 1000000 file.now)) }
 {
-    let schedule = nightfile::schedule_part(file);
-    write_lines(out, course::begin(file), schedule)
+    write_lines(out, course::begin(file), nightfile::schedule_part(file))
 }
 
 // Says on standard error what failed, and ends with the status of a failure.

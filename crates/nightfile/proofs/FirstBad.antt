@@ -1,24 +1,79 @@
 -- The first bad item: beside 6 the file tells its place, beside any other number none.
-use Prim.Native.Nat.{ℕ, ◌*◌, ◌/◌, ◌≤◌, ◌<◌}
+use Prim.Native.Nat.{ℕ, ◌+◌, ◌*◌, ◌/◌, ◌≤◌, ◌<◌}
 use mathlib.Core.Path.{◌≡◌, refl, sym, ap, ◌∙◌}
-use mathlib.Core.Bool.{Bool, true, false, not, not-not}
-use mathlib.Core.List.{List}
+use mathlib.Core.Bool.{Bool, true, false, cond, not}
+use mathlib.Core.List.{List, []}
 use native.Mathlib.Omega.{arith}
-use lib.Dec.{ltb, leb}
+use lib.Dec.{leb}
 use lib.ListN.{length, get_or}
 use borrow.Author.Tests.{leb-true, leb-false, ne_eqb}
+use denote.Param.Members.{Mut, Called}
+use Rattle.std.specs.Borrow.{Bor}
+use Rattle.std.specs.Prelude.{Option, Some, None, IsTrue, IfSome, MatchOption, slice_index_or}
+use Rattle.std.specs.Option.{IsSomeAnd, option_map}
+use Rattle.std.specs.List.{IsSubsliceAt}
+use Rattle.std.specs.Iterator.Runs.{Run, SomeRun, EveryRun, IsChunksExactRun, AllItemsGive, IsFirstToGive}
 use Rattle.lists.specs.Refusal.{refused_if}
-use Rattle.lists.proofs.Laws.{every-at}
-use Rattle.lists.proofs.First.{first-at, first_below}
+use Rattle.lists.proofs.Laws.{every-at, every_each, every-not}
+use Rattle.lists.proofs.First.{first_is, first-at}
 use Rattle.nightfile.specs.File.{byte_at, item_kind_right, item_kinds_right, first_bad_item, length_wrong, contents_right, plan_body, schedule_body, plan_length_wrong, plan_of, bytes_left_over, schedule_number, bodies_number, file_number, number_and_place, file_told, file_place}
 use Rattle.nightfile.specs.Theorems.{IsFirstBad, OneIsFirst, SixTellsTheFirstBad, OnlySixTellsAPlace}
 use Rattle.plan.specs.Plan.{in_range}
 use Rattle.nightfile.proofs.Laws.{passed_over}
 
--- the kind of the item that starts at an offset
-pub kind_at : (schedule : List ℕ) (at index : ℕ) → at ≡ 3 * index → item_kind_right schedule index ≡ leb (get_or schedule at 0) 3
-unfolding item_kind_right byte_at
-kind_at schedule at index e = ap (λ (place : ℕ). leb (get_or schedule place 0) 3) (sym e)
+-- the first of the whole items of which a test of their first byte holds, from the run of the chunks that were looked at
+module _ {S F : Type 0} {steps : S → Option (Bor (List ℕ)) → S → Type 0} (schedule : List ℕ) (p : Run steps) (chunks : IsChunksExactRun p 3 schedule)
+    (g : Mut F (Bor (List ℕ) × Unit {0}) Bool) (f : F)
+    (asks : (item : Bor (List ℕ)) (bad : Bool) (q : F) → Called g f (item, tt) bad q → (q ≡ f) × (leb (get_or item.now 0 0) 3 ≡ not bad)) where
+  -- an item is three bytes of the schedule
+  kind_of : (k : ℕ) (bad : Bool) → IsSomeAnd (p.at k) (λ item. Called g f (item, tt) bad f) → item_kind_right schedule k ≡ not bad
+  unfolding item_kind_right byte_at
+  kind_of k bad asked = go (p.at k) (chunks.2 k) asked
+    where
+      go : (found : Option (Bor (List ℕ)))
+          → IfSome found (λ x. (length x.now ≡ 3) × (k * 3 + 3 ≤ length schedule) × IsSubsliceAt 3 schedule (k * 3) x.now)
+          → IsSomeAnd found (λ item. Called g f (item, tt) bad f) → leb (get_or schedule (3 * k) 0) 3 ≡ not bad
+      go None chunk asked = elim asked [ ]
+      go (Some item) chunk asked =
+          let place : k * 3 + 0 ≡ 3 * k = omega arith in
+          ap (λ (byte : ℕ). leb byte 3) (ap (λ (at : ℕ). get_or schedule at 0) (sym place) ∙ sym (chunk.2.2 0 0 (omega arith))) ∙ (asks item bad f asked).1
+
+  -- an item of the run is there
+  asked_at : (k : ℕ) → k < p.len → IfSome (p.at k) (λ item. Called g f (item, tt) false f) → IsSomeAnd (p.at k) (λ item. Called g f (item, tt) false f)
+  asked_at k there asked = go (p.at k) (λ d. p.reads k d there) asked
+    where
+      go : (found : Option (Bor (List ℕ))) → ((d : Bor (List ℕ)) → option_map (λ y. y) found ≡ Some (slice_index_or p.items k d))
+          → IfSome found (λ item. Called g f (item, tt) false f) → IsSomeAnd found (λ item. Called g f (item, tt) false f)
+      go None reads asked = let none = reads (record { ref_ptr = (0, 0); now = [] }) in absurd (cc)
+      go (Some item) reads asked = asked
+
+  found_first : (found : Option ℕ)
+      → MatchOption found (IsTrue p.whole × AllItemsGive p g f false) (λ i. (p.len ≡ i + 1) × IsFirstToGive p g f true false i)
+      → found ≡ cond (item_kinds_right schedule) None (Some (first_bad_item schedule))
+  unfolding item_kinds_right first_bad_item
+  found_first None (whole, none) =
+      let all : p.len ≡ length schedule / 3 = chunks.1 whole in
+      let right = every_each (item_kind_right schedule) (length schedule / 3) (λ k below. kind_of k false (asked_at k (omega arith) (none (λ a r q h. (asks a.0 r q h).0) k))) in
+      rw right
+  found_first (Some i) (end, first) =
+      let hit = first (λ a r q h. (asks a.0 r q h).0) in
+      let there : i < length schedule / 3 = omega (arith, chunks.0) in
+      let bad = kind_of i true hit.0 in
+      let before : (j : ℕ) → j < i → item_kind_right schedule j ≡ true = λ j earlier. kind_of j false (hit.1 j earlier) in
+      rw (every-not (item_kind_right schedule) (length schedule / 3) i there bad)
+      (ap (λ (n : ℕ). Some n) (sym (first_is (item_kind_right schedule) (length schedule / 3) i (omega arith) before (λ below. bad))))
+
+-- what `position` finds among the items of a schedule, by such a test
+pub first_found : (schedule : List ℕ) {S F : Type 0} {steps : S → Option (Bor (List ℕ)) → S → Type 0} (size : S → ℕ) (rest : S → List ℕ) (all : S)
+    → EveryRun steps (λ p. 0 < size p.from → IsChunksExactRun p (size p.from) (rest p.from)) → size all ≡ 3 → rest all ≡ schedule
+    → (g : Mut F (Bor (List ℕ) × Unit {0}) Bool) (f : F)
+    → ((item : Bor (List ℕ)) (bad : Bool) (q : F) → Called g f (item, tt) bad q → (q ≡ f) × (leb (get_or item.now 0 0) 3 ≡ not bad)) → (found : Option ℕ)
+    → SomeRun steps all (λ p. MatchOption found (IsTrue p.whole × AllItemsGive p g f false) (λ i. (p.len ≡ i + 1) × IsFirstToGive p g f true false i))
+    → found ≡ cond (item_kinds_right schedule) None (Some (first_bad_item schedule))
+first_found schedule size rest all every three whole g f asks found (p, from, so) =
+    let size_three : size p.from ≡ 3 = ap size from ∙ three in
+    let rest_whole : rest p.from ≡ schedule = ap rest from ∙ whole in
+    found_first schedule p (rw (size_three, rest_whole) at (every p p.seen (omega (arith, size_three)))) g f asks found so
 
 -- where some item is bad, the definition's place is that of the first
 pub first_bad : (schedule : List ℕ) → item_kinds_right schedule ≡ false → IsFirstBad schedule (first_bad_item schedule)
@@ -30,11 +85,6 @@ first_bad schedule e =
       bad = leb-false _ _ found.fails;
       before = λ earlier l. leb-true _ _ (every-at (item_kind_right schedule) _ earlier found.before l);
     }
-
--- no item is bad where there is no first
-pub right_by_first : (schedule : List ℕ) → item_kinds_right schedule ≡ not (ltb (first_bad_item schedule) (length schedule / 3))
-unfolding item_kinds_right first_bad_item
-right_by_first schedule = sym (ap not (first_below (item_kind_right schedule) (length schedule / 3)) ∙ not-not _)
 
 -- 6 is given where some item is bad
 refused_with : (test : Bool) (number : ℕ) → 0 < number → refused_if (not test) number 0 ≡ number → test ≡ false

@@ -1,21 +1,30 @@
 -- Laws of the night file: the values of a plan body while they are read, its two parts, and what an accepted file gives.
 use Prim.Native.Nat.{ℕ, zero, suc, ◌+◌, ◌-◌, ◌≤◌, ◌<◌}
-use mathlib.Core.Path.{◌≡◌, refl, ap, ◌∙◌}
-use mathlib.Core.Bool.{Bool, true, false, not, ◌&&◌, ◌||◌}
-use mathlib.Core.List.{List, [], ◌∷◌, ◌++◌, append-nil}
-use native.Mathlib.Numerals.{add-one}
-use native.Mathlib.Nat.{add-sub_cancel_left}
+use mathlib.Core.Path.{◌≡◌, refl, sym, ap, subst, ◌∙◌}
+use mathlib.Core.Bool.{Bool, true, false, cond, not, ◌&&◌, ◌||◌}
+use mathlib.Core.List.{List, [], ◌∷◌, ◌++◌, map}
+use mathlib.Core.Logic.{⊎_elim}
+use native.Mathlib.Nat.{add-sub_cancel_left, eq-or-lt_of_le}
 use native.Mathlib.Omega.{arith}
 use lib.Dec.{eqb, ltb}
-use lib.ListN.{length, get_or, take, drop, set, replicate, length-append, length-replicate, length-drop}
-use lib.Seq.{take-suc, set_at, length-take-le, append_snoc, take_all}
-use borrow.Author.Tests.{eqb-true, le-ltb, ltb-false, not-false}
+use lib.ListN.{length, get_or, take, drop, replicate, length-append, length-replicate, length-drop}
+use lib.Seq.{get_or-drop, length-take-le, take_all}
+use borrow.Author.Tests.{eqb-true, ltb-false, not-false}
+use Rattle.std.specs.Prelude.{Result, Ok, Err}
+use Rattle.std.specs.Result.{is_err}
+use denote.Param.Members.{Mut, Called}
+use Rattle.std.specs.Array.{IsFromFnResult, IsFromFnResultFrom}
+use Rattle.std.specs.List.{range_with_len}
+use Rattle.std.proofs.lemmas.List.FromFn.{fill_by_all}
+use Rattle.std.proofs.lemmas.List.{get_or-take}
 use Rattle.lists.specs.Refusal.{refused_if}
 use Rattle.lists.proofs.Laws.{and_right}
 use Rattle.positions.specs.Shape.{ends_at}
 use Rattle.plan.specs.Plan.{in_range}
-use Rattle.nightfile.specs.File.{byte_at, length_wrong, entry_at, entry_length, schedule_start, contents_right, plan_body, schedule_body, plan_length_wrong, plan_of, schedule_number, bodies_number, file_number, Told, number_and_place, file_told, file_place, if_accepted, plan_part, part_at, file_answer_number, file_answer_place, file_answer_told}
-use Rattle.nightfile.specs.declared.FileAnswer.{FileAnswer}
+use Rattle.nightfile.specs.File.{byte_at, plan_values, length_wrong, entry_at, entry_length, schedule_start, contents_right, plan_body, schedule_body, plan_length_wrong, plan_of, schedule_number, bodies_number, file_number, Told, number_and_place, file_told, file_place, if_accepted, plan_part, refusal_number, refusal_place, file_answer_number, file_answer_place, file_answer_told, bytes_left_over, item_kinds_right, first_bad_item, schedule_answer, bodies_answer, file_answer}
+use Rattle.nightfile.specs.Theorems.{AnswerTellsNumberAndPlace}
+use Rattle.nightfile.specs.declared.FileRefusal.{FileRefusal}
+use Rattle.nightfile.specs.declared.FileRefusal.TheVariants.{WrongLength, WrongContents, WrongPlanLength, PlanOutOfRange, BytesLeftOver, BadItem}
 
 -- a byte past the end is 0, with zeros written there or not
 padded_at : (bytes : List ℕ) (n at : ℕ) → get_or (bytes ++ replicate n 0) at 0 ≡ get_or bytes at 0
@@ -25,45 +34,36 @@ padded_at [] (suc n) (suc at) = padded_at [] n at
 padded_at (b ∷ bytes) n zero = refl
 padded_at (b ∷ bytes) n (suc at) = padded_at bytes n at
 
--- n values, the first `at` of them read
-unfoldable pub values_read : List ℕ → ℕ → ℕ → List ℕ
-values_read bytes n at = take at (bytes ++ replicate n 0) ++ replicate (n - at) 0
+-- an array made from a function of the place, which keeps nothing from one call to the next
+module _ {F : Type 0} (g : Mut F (ℕ × Unit {0}) ℕ) (t : ℕ → ℕ) (f : F)
+    (gives : (k y : ℕ) (q : F) → Called g f (k, tt) y q → (q ≡ f) × (y ≡ t k)) (ys : List ℕ) where
+  from_each : (n i : ℕ) → IsFromFnResultFrom g f ys i n → (k : ℕ) → i ≤ k → k < i + n → get_or ys k 0 ≡ t k
+  from_each zero i made k from before = absurd (omega arith)
+  from_each (suc n) i (q, y, here, called, rest) k from before =
+      let same = gives i y q called in
+      ⊎_elim
+      (λ at. let first : get_or ys i 0 ≡ t i = here.1 0 ∙ same.1 in subst (λ (j : ℕ). get_or ys j 0 ≡ t j) at first)
+      (λ behind. from_each n (i + 1) (subst (λ (p : F). IsFromFnResultFrom g p ys (i + 1) n) same.0 rest) k (omega arith) (omega arith))
+      (eq-or-lt_of_le from)
 
-pub values_none : (bytes : List ℕ) (n : ℕ) → replicate n 0 ≡ values_read bytes n 0
-unfolding values_read
-values_none bytes n = let e : n - 0 ≡ n = omega arith in rw e
+  pub made_by : (n : ℕ) → IsFromFnResult g f ys n → ys ≡ map t (range_with_len 0 n)
+  made_by n made = fill_by_all t ys n 0 made.long (λ k below. from_each n 0 made.each k (omega arith) (omega arith))
 
--- one value more
-pub values_more : (bytes : List ℕ) (n at : ℕ) → at < n → set (values_read bytes n at) at (get_or bytes at 0) ≡ values_read bytes n (at + 1)
-unfolding values_read
-values_more bytes n at below =
-    let long : length (bytes ++ replicate n 0) ≡ length bytes + n = simp (length-append, length-replicate) in
-    let l : length (take at (bytes ++ replicate n 0)) ≡ at = length-take-le at _ (omega arith) in
-    let h : at < length (bytes ++ replicate n 0) = omega arith in
-    let e : n - at ≡ suc (n - (at + 1)) = omega arith in
-    rw e (set_at (take at (bytes ++ replicate n 0)) 0 (replicate (n - (at + 1)) 0) (get_or bytes at 0) at l
-    ∙ rw (add-one, take-suc (bytes ++ replicate n 0) at 0, padded_at, append_snoc))
-
-pub values_done : (bytes : List ℕ) (n : ℕ) → values_read bytes n n ≡ take n (bytes ++ replicate n 0)
-unfolding values_read
-values_done bytes n = let e : n - n ≡ 0 = omega arith in rw (e, append-nil)
+-- the values of a plan body, place by place
+pub values_made : (body : List ℕ) → map (λ place. byte_at body (3 + place)) (range_with_len 0 352) ≡ plan_values body
+unfolding byte_at plan_values
+values_made body = made (drop 3 body) 352
+  where
+    made : (bytes : List ℕ) (n : ℕ) → map (λ place. get_or body (3 + place) 0) (range_with_len 0 n) ≡ take n (drop 3 body ++ replicate n 0)
+    made bytes n =
+        let long : length (drop 3 body ++ replicate n 0) ≡ length (drop 3 body) + n = simp (length-append, length-replicate) in
+        sym (fill_by_all (λ place. get_or body (3 + place) 0) (take n (drop 3 body ++ replicate n 0)) n 0 (length-take-le n _ (omega arith))
+        (λ k below. get_or-take n (drop 3 body ++ replicate n 0) k 0 below ∙ padded_at (drop 3 body) n k ∙ get_or-drop 3 body k 0))
 
 -- the bodies as the code cuts them out of a file
 pub plan_cut : (file : List ℕ) → take (schedule_start file - 11) (drop 11 file) ≡ plan_body file
 unfolding plan_body schedule_start
 plan_cut file = rw add-sub_cancel_left
-
--- the bytes of a plan body's positions
-pub positions_cut : (body : List ℕ) → take (length body - 3) (drop 3 body) ≡ drop 3 body
-positions_cut body = take_all (length body - 3) (drop 3 body) (simp length-drop (omega arith))
-
--- a body of 3 bytes or more is too long or too short where its positions do not end with it
-pub ends_or_wrong : (body : List ℕ) (ends : Bool) → 3 ≤ length body → ends ≡ ends_at false (byte_at body 2) (take (length body - 3) (drop 3 body))
-    → not ends ≡ plan_length_wrong body
-unfolding plan_length_wrong
-ends_or_wrong body ends long e =
-    let here : ends ≡ ends_at false (byte_at body 2) (drop 3 body) = e ∙ ap (ends_at false (byte_at body 2)) (positions_cut body) in
-    rw (le-ltb (length body) 3 long) (ap not here)
 
 pub schedule_cut : (file : List ℕ) → take (length file - schedule_start file) (drop (schedule_start file) file) ≡ schedule_body file
 unfolding schedule_body
@@ -126,14 +126,64 @@ accepted file e =
       schedule = bodies.2;
     }
 
--- what an answer tells of a file: its number, its place
-pub told_number : (answer : FileAnswer) (file : List ℕ) → file_answer_told answer ≡ file_told file → file_answer_number answer ≡ file_number file
-unfolding file_answer_told file_told number_and_place
-told_number answer file e = ap (λ (t : Told). t.number) e
+-- the answer to a file tells its number and its place
+schedule_told : (schedule : List ℕ) → file_answer_told (schedule_answer schedule) ≡ number_and_place (schedule_number schedule) schedule
+unfolding schedule_answer schedule_number refused_if number_and_place file_answer_told file_answer_number file_answer_place refusal_number refusal_place
+schedule_told schedule = go (bytes_left_over schedule) (item_kinds_right schedule)
+  where
+    go : (left right : Bool)
+        → file_answer_told (cond left (Err BytesLeftOver) (cond right (Ok tt) (Err (BadItem (first_bad_item schedule)))))
+        ≡ number_and_place (refused_if left 5 (refused_if (not right) 6 0)) schedule
+    go true right = refl
+    go false true = refl
+    go false false = refl
 
-pub told_place : (answer : FileAnswer) (file : List ℕ) → file_answer_told answer ≡ file_told file → file_answer_place answer ≡ file_place file
-unfolding file_answer_told file_place
-told_place answer file e = ap (λ (t : Told). t.place) e
+bodies_told : (plan schedule : List ℕ) → file_answer_told (bodies_answer plan schedule) ≡ number_and_place (bodies_number plan schedule) schedule
+unfolding bodies_answer bodies_number refused_if number_and_place file_answer_told file_answer_number file_answer_place refusal_number refusal_place
+bodies_told plan schedule = go (plan_length_wrong plan) (in_range (plan_of plan))
+  where
+    go : (wrong right : Bool)
+        → file_answer_told (cond wrong (Err WrongPlanLength) (cond right (schedule_answer schedule) (Err PlanOutOfRange)))
+        ≡ number_and_place (refused_if wrong 3 (refused_if (not right) 4 (schedule_number schedule))) schedule
+    go true right = refl
+    go false true = schedule_told schedule
+    go false false = refl
+
+pub answer_told : (file : List ℕ) → file_answer_told (file_answer file) ≡ file_told file
+unfolding file_answer file_told file_number refused_if number_and_place file_answer_told file_answer_number file_answer_place refusal_number refusal_place
+answer_told file = go (length_wrong file) (contents_right file)
+  where
+    go : (wrong right : Bool)
+        → file_answer_told (cond wrong (Err WrongLength) (cond right (bodies_answer (plan_body file) (schedule_body file)) (Err WrongContents)))
+        ≡ number_and_place (refused_if wrong 1 (refused_if (not right) 2 (bodies_number (plan_body file) (schedule_body file)))) (schedule_body file)
+    go true right = refl
+    go false true = bodies_told (plan_body file) (schedule_body file)
+    go false false = refl
+
+pub told_by : (file : List ℕ) {answer : Result Unit FileRefusal} → answer ≡ file_answer file → file_answer_told answer ≡ file_told file
+told_by file e = ap file_answer_told e ∙ answer_told file
+
+pub answer_tells : AnswerTellsNumberAndPlace
+unfolding file_place file_told file_answer_told number_and_place
+answer_tells file = (ap (λ (t : Told). t.number) (answer_told file), ap (λ (t : Told). t.place) (answer_told file))
+
+-- an accepted file has no number, a refused one has
+pub refused_by : (file : List ℕ) → is_err (file_answer file) ≡ not (eqb (file_number file) 0)
+unfolding file_answer_number refusal_number
+refused_by file = go (file_answer file) ∙ ap (λ (n : ℕ). not (eqb n 0)) (answer_tells file).0
+  where
+    go : (answer : Result Unit FileRefusal) → is_err answer ≡ not (eqb (file_answer_number answer) 0)
+    go (Ok accepted) = refl
+    go (Err WrongLength) = refl
+    go (Err WrongContents) = refl
+    go (Err WrongPlanLength) = refl
+    go (Err PlanOutOfRange) = refl
+    go (Err BytesLeftOver) = refl
+    go (Err (BadItem place)) = refl
+
+-- where a file is not refused, the schedule starts within it, or at its end
+pub start_within : (file : List ℕ) → is_err (file_answer file) ≡ false → schedule_start file ≤ length file
+start_within file e = start_most file (accepted file (eqb-true _ _ (not-false _ (sym (refused_by file) ∙ e)))).contents
 
 -- an accepted file shows its two bodies
 pub plan_shown : (file : List ℕ) → file_number file ≡ 0 → plan_part file ≡ plan_body file
@@ -143,16 +193,3 @@ plan_shown file e = rw e
 -- and its plan is in range
 pub plan-in_range : (file : List ℕ) → file_number file ≡ 0 → in_range (plan_of (plan_part file)) ≡ true
 plan-in_range file e = ap (λ (body : List ℕ). in_range (plan_of body)) (plan_shown file e) ∙ (accepted file e).in_range_lem
-
--- where a part lies: of an accepted file behind the file's start, of a refused one at it
-pub part_place : (place : ℕ × ℕ) (file : List ℕ) (start at : ℕ) → eqb (file_number file) 0 ≡ true → start ≡ at → (place.0, start + place.1) ≡ part_at place file at
-unfolding part_at
-part_place place file start at e s =
-    let there : start + place.1 ≡ place.1 + at = omega (arith, s) in
-    rw e (λ i. (place.0, there i))
-
-pub refused_place : (place : ℕ × ℕ) (file : List ℕ) (at : ℕ) → eqb (file_number file) 0 ≡ false → place ≡ part_at place file at
-unfolding part_at
-refused_place place file at e =
-    let there : place.1 ≡ place.1 + 0 = omega arith in
-    rw e (λ i. (place.0, there i))

@@ -1,12 +1,12 @@
 -- 01, "The night file and its items": the file, its two bodies, the plan; the numbers 1 to 6, and with 6 where the first bad item is.
-use Rattle.std.specs.Prelude.{ℕ, ◌+◌, ◌*◌, ◌/◌, ◌%◌, Bool, false, cond, not, ◌&&◌, ◌||◌, List, [], ◌++◌, eqb, ltb, leb, length, get_or, take, drop, replicate}
+use Rattle.std.specs.Prelude.{ℕ, ◌+◌, ◌*◌, ◌/◌, ◌%◌, Bool, false, cond, not, ◌&&◌, ◌||◌, List, [], ◌++◌, eqb, ltb, leb, length, get_or, take, drop, replicate, Result, Ok, Err}
 use Rattle.lists.specs.Loops.{every, first_not}
 use Rattle.lists.specs.Refusal.{refused_if}
 use Rattle.plan.specs.declared.Plan.{Plan}
 use Rattle.positions.specs.Shape.{ends_at}
 use Rattle.plan.specs.Plan.{value_places, in_range}
-use Rattle.nightfile.specs.declared.FileAnswer.{FileAnswer}
-use Rattle.nightfile.specs.declared.FileAnswer.TheVariants.{Accepted, WrongLength, WrongContents, WrongPlanLength, PlanOutOfRange, BytesLeftOver, BadItem}
+use Rattle.nightfile.specs.declared.FileRefusal.{FileRefusal}
+use Rattle.nightfile.specs.declared.FileRefusal.TheVariants.{WrongLength, WrongContents, WrongPlanLength, PlanOutOfRange, BytesLeftOver, BadItem}
 
 -- a byte, and "two bytes each, low byte first"
 unfoldable pub byte_at : List ℕ → ℕ → ℕ
@@ -120,24 +120,44 @@ schedule_part file = if_accepted file (schedule_body file)
 unfoldable pub part_at : ℕ × ℕ → List ℕ → ℕ → ℕ × ℕ
 part_at place file start = (place.0, place.1 + cond (eqb (file_number file) 0) start 0)
 
+-- a refusal's number, and the place that it tells (0: none)
+unfoldable pub refusal_number : FileRefusal → ℕ
+refusal_number WrongLength = 1
+refusal_number WrongContents = 2
+refusal_number WrongPlanLength = 3
+refusal_number PlanOutOfRange = 4
+refusal_number BytesLeftOver = 5
+refusal_number (BadItem place) = 6
+
+unfoldable pub refusal_place : FileRefusal → ℕ
+refusal_place WrongLength = 0
+refusal_place WrongContents = 0
+refusal_place WrongPlanLength = 0
+refusal_place PlanOutOfRange = 0
+refusal_place BytesLeftOver = 0
+refusal_place (BadItem place) = place
+
 -- an answer's number, the place that it tells (0: none), and both
-unfoldable pub file_answer_number : FileAnswer → ℕ
-file_answer_number Accepted = 0
-file_answer_number WrongLength = 1
-file_answer_number WrongContents = 2
-file_answer_number WrongPlanLength = 3
-file_answer_number PlanOutOfRange = 4
-file_answer_number BytesLeftOver = 5
-file_answer_number (BadItem place) = 6
+unfoldable pub file_answer_number : Result Unit FileRefusal → ℕ
+file_answer_number (Ok accepted) = 0
+file_answer_number (Err refusal) = refusal_number refusal
 
-unfoldable pub file_answer_place : FileAnswer → ℕ
-file_answer_place Accepted = 0
-file_answer_place WrongLength = 0
-file_answer_place WrongContents = 0
-file_answer_place WrongPlanLength = 0
-file_answer_place PlanOutOfRange = 0
-file_answer_place BytesLeftOver = 0
-file_answer_place (BadItem place) = place
+unfoldable pub file_answer_place : Result Unit FileRefusal → ℕ
+file_answer_place (Ok accepted) = 0
+file_answer_place (Err refusal) = refusal_place refusal
 
-unfoldable pub file_answer_told : FileAnswer → Told
+unfoldable pub file_answer_told : Result Unit FileRefusal → Told
 file_answer_told answer = record { number = file_answer_number answer; place = file_answer_place answer }
+
+-- the answer to a file: accepted, or "the lowest that applies", with 6 the place of the first bad item
+unfoldable pub schedule_answer : List ℕ → Result Unit FileRefusal
+schedule_answer schedule =
+    cond (bytes_left_over schedule) (Err BytesLeftOver) (cond (item_kinds_right schedule) (Ok tt) (Err (BadItem (first_bad_item schedule))))
+
+unfoldable pub bodies_answer : List ℕ → List ℕ → Result Unit FileRefusal
+bodies_answer plan schedule =
+    cond (plan_length_wrong plan) (Err WrongPlanLength) (cond (in_range (plan_of plan)) (schedule_answer schedule) (Err PlanOutOfRange))
+
+unfoldable pub file_answer : List ℕ → Result Unit FileRefusal
+file_answer file =
+    cond (length_wrong file) (Err WrongLength) (cond (contents_right file) (bodies_answer (plan_body file) (schedule_body file)) (Err WrongContents))

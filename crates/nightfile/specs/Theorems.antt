@@ -2,7 +2,7 @@
 use Rattle.std.specs.Prelude.{ℕ, ◌*◌, ◌/◌, ◌≤◌, ◌<◌, ◌≡◌, true, false, List, length, drop}
 use Rattle.plan.specs.declared.Plan.{Plan}
 use Rattle.plan.specs.Plan.{positions_read, in_range}
-use Rattle.nightfile.specs.File.{byte_at, plan_length_wrong, plan_of, schedule_body, file_number, file_place}
+use Rattle.nightfile.specs.File.{byte_at, plan_length_wrong, plan_of, schedule_body, file_number, file_place, file_answer_number, file_answer_place, file_answer}
 
 -- the first bad item of a schedule: there is a whole item at this place, its first byte is above 3, and that of no item before it is
 pub record IsFirstBad (schedule : List ℕ) (place : ℕ) : Type 0 where
@@ -21,6 +21,10 @@ SixTellsTheFirstBad = (file : List ℕ) → file_number file ≡ 6 → IsFirstBa
 -- and beside no other number, 5 too, is a place told
 abbrev pub OnlySixTellsAPlace : Type 0
 OnlySixTellsAPlace = (file : List ℕ) → (file_number file ≡ 6 → ⊥) → file_place file ≡ 0
+
+-- the answer to a file tells its number, and its place
+abbrev pub AnswerTellsNumberAndPlace : Type 0
+AnswerTellsNumberAndPlace = (file : List ℕ) → (file_answer_number (file_answer file) ≡ file_number file) × (file_answer_place (file_answer file) ≡ file_place file)
 
 -- the plan of all the bytes of a body
 unfoldable pub whole_plan : List ℕ → Plan

@@ -1,82 +1,56 @@
 // The two bodies of a file: the plan's length (3), its values (4), the schedule's length (5) and its first bad item (6).
-ghost use Rattle.std.specs.Prelude.{◌≡◌};
-ghost use Rattle.nightfile.specs.File.{plan_length_wrong, plan_values, first_bad_item, schedule_number, bodies_number, number_and_place, file_answer_told};
+ghost use Rattle.std.specs.Prelude.{◌≡◌, cond, Some, None};
+ghost use Rattle.nightfile.specs.File.{plan_length_wrong, plan_values, item_kinds_right, first_bad_item, schedule_answer, bodies_answer};
 
-use crate::FileAnswer;
+use crate::FileRefusal;
 use positions::VALUES;
 
 // Whether a plan body is under 3 bytes, or does not end exactly where its positions do (3).
+#[tactic(auto, unfolding(crate::specs::File::plan_length_wrong, crate::specs::File::byte_at))]
 fn plan_length_wrong(body: &[u8]) -> bool
     ensures { result ≡ plan_length_wrong body.now }
 {
-    if body.len() < 3 {
-        return true;
-    }
-    let count = body[2];
-    if positions::ends_exactly(&body[3..], count) {
-        return false;
-    }
-    true
+    body.len() < 3 || !positions::ends_exactly(&body[3..], body[2])
 }
 
 // The bytes of a plan body's positions, the first 352, and 0 at the places without a byte.
 pub fn plan_values(body: &[u8]) -> [u8; VALUES]
     ensures { result ≡ plan_values body.now }
 {
-    let mut values = [0u8; VALUES];
-    let mut i = 0;
-    while i < VALUES {
-        values[i] = crate::contents::byte_at(body, 3 + i);
-        i += 1;
-    }
-    values
+    std::array::from_fn(|place| crate::byte_at(body, 3 + place))
 }
 
-// The place of the first whole item whose first byte is above 3, counted from 0; the number of whole items where there is none.
-// The items before `first` are to be looked at: none any more, once one is found.
-fn first_bad_item(schedule: &[u8]) -> usize
-    ensures { result ≡ first_bad_item schedule.now }
+// The place of the first whole item whose first byte is above 3, counted from 0, if there is one.
+fn first_bad_item(schedule: &[u8]) -> Option<usize>
+    ensures { result ≡ cond (item_kinds_right schedule.now) None (Some (first_bad_item schedule.now)) }
 {
-    let items = schedule.len() / 3;
-    let mut first = items;
-    let mut at = 0;
-    let mut i = 0;
-    while i < first {
-        if schedule[at] <= 3 {
-            at += 3;
-            i += 1;
-        } else {
-            first = i;
-            at += 3;
-            i += 1;
-        }
-    }
-    first
+    schedule.chunks_exact(3).position(|item| 3 < item[0])
 }
 
 // 5 and 6, by the schedule.
-fn schedule_answer(schedule: &[u8]) -> FileAnswer
-    ensures { file_answer_told result ≡ number_and_place (schedule_number schedule.now) schedule.now }
+#[tactic(auto, unfolding(crate::specs::File::schedule_answer, crate::specs::File::bytes_left_over))]
+fn schedule_answer(schedule: &[u8]) -> Result<(), FileRefusal>
+    ensures { result ≡ schedule_answer schedule.now }
 {
-    if schedule.len() % 3 == 0 {
-        let place = first_bad_item(schedule);
-        if place < schedule.len() / 3 {
-            return FileAnswer::BadItem(place);
-        }
-        return FileAnswer::Accepted;
+    if schedule.len() % 3 != 0 {
+        return Err(FileRefusal::BytesLeftOver);
     }
-    FileAnswer::BytesLeftOver
+    match first_bad_item(schedule) {
+        Some(place) => Err(FileRefusal::BadItem(place)),
+        None => Ok(()),
+    }
 }
 
 // 3 to 6, by the two bodies.
-pub fn answer(body: &[u8], schedule: &[u8]) -> FileAnswer
-    ensures { file_answer_told result ≡ number_and_place (bodies_number body.now schedule.now) schedule.now }
+#[tactic(auto, unfolding(crate::specs::File::bodies_answer))]
+pub fn answer(body: &[u8], schedule: &[u8]) -> Result<(), FileRefusal>
+    ensures { result ≡ bodies_answer body.now schedule.now }
 {
     if plan_length_wrong(body) {
-        return FileAnswer::WrongPlanLength;
+        return Err(FileRefusal::WrongPlanLength);
     }
-    if crate::read_plan(body).in_range() {
-        return schedule_answer(schedule);
+    if !crate::read_plan(body).in_range() {
+        return Err(FileRefusal::PlanOutOfRange);
     }
-    FileAnswer::PlanOutOfRange
+    schedule_answer(schedule)
 }

@@ -6,7 +6,7 @@ use native.Mathlib.Omega.{arith}
 use lib.ListN.{length}
 use Rattle.items.specs.declared.Item.{Item}
 use Rattle.items.specs.declared.Reading.{Reading}
-use Rattle.items.specs.declared.ItemAnswer.TheVariants.{NoMore}
+use Rattle.std.specs.Prelude.{Ok, None}
 use Rattle.nightfile.specs.File.{schedule_number, schedule_part}
 use Rattle.items.specs.Items.{item_of, reading, read_at}
 use Rattle.nightfile.proofs.Schedule.{whole, part_right}
@@ -25,7 +25,7 @@ module _ (schedule : List ℕ) (right : schedule_number schedule ≡ 0) where
   none_left : (n at : ℕ) → length schedule ≤ at → items_within n schedule at ≡ []
   unfolding and_others items_within reading
   none_left zero at past = refl
-  none_left (suc n) at past = read_first n at (reading NoMore at) (reads_past schedule at past)
+  none_left (suc n) at past = read_first n at (reading (Ok None) at) (reads_past schedule at past)
 
   -- from the k-th item on, as many as there are
   from_item : (c n k : ℕ) → c ≤ n → k + c ≡ length schedule / 3 → items_within n schedule (3 * k) ≡ items_of schedule k c

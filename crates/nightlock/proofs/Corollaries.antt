@@ -16,7 +16,8 @@ use Rattle.nightfile.proofs.Laws.{plan-in_range as part-in-range}
 use Rattle.course.specs.Standing.{nodes_of, beginning, reached_next, action_item}
 use Rattle.course.specs.Whole.{telling_all, many_steps, items_from, on_items, on_steps, working}
 use Rattle.run.specs.Outcomes.{outcome_of, file_course, file_outcome}
-use Rattle.course.proofs.Moves.{AtItems, course-items, with_next}
+use Rattle.course.proofs.Moves.{course-items, with_next}
+use Rattle.run.proofs.Sum.{beginning-items}
 use Rattle.onelock.specs.OneLock.{Item, step, act, after_item, after_all, reached, in_step, history_from, history, steps_among}
 use Rattle.onelock.proofs.Run.Parts.{reached-more}
 use Rattle.onelock.proofs.Theorems.{never_stuck}
@@ -32,11 +33,7 @@ pub plan-in_range : (file : List ℕ) → file_number file ≡ 0 → in_range (p
 unfolding plan_in
 plan-in_range file e = part-in-range file e
 
--- the run of an accepted file begins at its items, with nothing done
-begins_items : (file : List ℕ) → file_number file ≡ 0 → AtItems (beginning file)
-unfolding beginning
-begins_items file e = record { not_over = refl; at-items = rw e }
-
+-- the run of an accepted file begins with nothing done
 begins : (file : List ℕ) → file_number file ≡ 0 → At file [] (items_in file) (beginning file)
 unfolding beginning reached after_all steps_among start_state plan_in empty_tally no_counts file_steps
 begins file e =
@@ -58,7 +55,7 @@ file_goes ceiling file e =
     let schedule = schedule_part file in
     let run = beginning file in
     let a = begins file e in
-    subst (Goes file none []) (sym (course-items ceiling schedule run (begins_items file e)))
+    subst (Goes file none []) (sym (course-items ceiling schedule run (beginning-items file e)))
     (goes_same _ none (λ lock. ap (apart (in_step 0)) (tells_none (plan_in file).rules lock node_places 0 (nodes_of run - 0)))
     (goes_telling (nodes_of run - 0) run (on_steps ceiling schedule) a
     (λ next. goes_items file r ceiling (items_from schedule 0) (with_next run next) (at_same _ refl a))))

@@ -1,5 +1,6 @@
 -- What is known of a course of a run that stands where a first part of its file's items has brought it: every line stands at such a place, what the
 -- lines report of a lock is the history of what the items do to it, and the busy steps are those after which some node has the lock.
+use Rattle.std.specs.Prelude.{Option}
 use Prim.Native.Nat.{ℕ, zero, suc, ◌+◌, ◌-◌, ◌^◌, ◌≤◌, ◌<◌, min}
 use mathlib.Core.Path.{◌≡◌, refl, ◌∙◌, ap, ap₂, sym, subst}
 use mathlib.Core.Bool.{Bool, true, false, cond, true≢false}
@@ -16,7 +17,7 @@ use Rattle.plan.specs.Plan.{in_range, node_count}
 use Rattle.plan.proofs.Laws.{in_range_lem}
 use Rattle.acts.specs.declared.Action.{Action}
 use Rattle.ring.specs.declared.State.{State}
-use Rattle.ring.specs.declared.Happening.{Happening}
+use Rattle.turns.specs.declared.Event.{Event}
 use Rattle.ring.specs.State.{rest_node, start_of}
 use Rattle.plan.proofs.Laws.{nodes_most as count_most}
 use Rattle.ring.proofs.Laws.{stepping_plan}
@@ -271,7 +272,7 @@ module _ (file : List ℕ) (r : in_range (plan_in file) ≡ true) where
   unfolding one_step nodes_of deeds_of
   step_deeds {done} run a lock =
       let s = reached (plan_in file) done in
-      let now : List Happening = (stepping s).events in
+      let now : List (Option Event) = (stepping s).events in
       let rules = (plan_in file).rules in
       let count : nodes_of (one_step run) ≡ node_count s.plan = step_nodes run ∙ ap (λ (t : State). node_count t.plan) a.state in
       let nodes : nodes_of (one_step run) - 0 ≡ node_count s.plan = omega (arith, count) in

@@ -1,4 +1,5 @@
 -- What the lines of a step and of an action report of a lock is what the step and the action do to it, at its time; the other lines report nothing.
+use Rattle.std.specs.Prelude.{Option, None, Some}
 use Prim.Native.Nat.{ℕ, zero, suc, ◌+◌, ◌≤◌}
 use mathlib.Core.Path.{◌≡◌, refl, ◌∙◌, ap, sym}
 use mathlib.Core.Bool.{Bool, true, false, cond, not, ◌&&◌, and-true, and-false, true≢false}
@@ -11,9 +12,8 @@ use Rattle.cars.specs.Cars.{multiring}
 use Rattle.acts.specs.declared.Action.{Action}
 use Rattle.acts.specs.declared.Action.TheVariants.{Take, Release, Force}
 use Rattle.turns.specs.declared.Event.{Event}
-use Rattle.turns.specs.declared.Event.TheVariants.{Nothing, Granted, Failed, Lost, Back, Sent}
+use Rattle.turns.specs.declared.Event.TheVariants.{Granted, Failed, Lost, Back, Sent}
 use Rattle.turns.specs.Turn.{event_letter, event_lock}
-use Rattle.ring.specs.declared.Happening.{Happening}
 use Rattle.ring.specs.Actions.{acting}
 use Rattle.ring.specs.Walk.{quiet}
 use Rattle.course.specs.declared.Run.{Run}
@@ -45,17 +45,17 @@ apart_if time true deed = refl
 apart_if time false deed = refl
 
 -- the deeds of so many nodes from a place on
-unfoldable pub tells : ℕ → ℕ → List Happening → ℕ → ℕ → List Deed
+unfoldable pub tells : ℕ → ℕ → List (Option Event) → ℕ → ℕ → List Deed
 tells rules lock events next zero = []
-tells rules lock events next (suc n) = deed_of rules lock (next + 1) (get_or events next quiet).event ++ tells rules lock events (next + 1) n
+tells rules lock events next (suc n) = deed_of rules lock (next + 1) (get_or events next quiet) ++ tells rules lock events (next + 1) n
 
 -- those of the first nodes and those of the next are those of all
-deeds_more : (rules lock : ℕ) (events : List Happening) (n : ℕ)
-    → deeds_in rules lock events (n + 1) ≡ deeds_in rules lock events n ++ deed_of rules lock (n + 1) (get_or events n quiet).event
+deeds_more : (rules lock : ℕ) (events : List (Option Event)) (n : ℕ)
+    → deeds_in rules lock events (n + 1) ≡ deeds_in rules lock events n ++ deed_of rules lock (n + 1) (get_or events n quiet)
 unfolding deeds_in
 deeds_more rules lock events n = rw add-one
 
-tells_more : (rules lock : ℕ) (events : List Happening) (next n all : ℕ) → all ≡ next + n
+tells_more : (rules lock : ℕ) (events : List (Option Event)) (next n all : ℕ) → all ≡ next + n
     → deeds_in rules lock events next ++ tells rules lock events next n ≡ deeds_in rules lock events all
 unfolding tells
 tells_more rules lock events next zero all e =
@@ -67,7 +67,7 @@ tells_more rules lock events next (suc n) all e =
     ∙ ap (λ (first : List Deed). first ++ tells rules lock events (next + 1) n) (sym (deeds_more rules lock events next))
     ∙ tells_more rules lock events (next + 1) n all one
 
-pub tells_all : (rules lock : ℕ) (events : List Happening) (n : ℕ) → tells rules lock events 0 n ≡ deeds_in rules lock events n
+pub tells_all : (rules lock : ℕ) (events : List (Option Event)) (n : ℕ) → tells rules lock events 0 n ≡ deeds_in rules lock events n
 unfolding deeds_in
 tells_all rules lock events n = let all : n ≡ 0 + n = omega arith in tells_more rules lock events 0 n n all
 
@@ -81,26 +81,26 @@ pub tells_none : (rules lock places next n : ℕ) → tells rules lock (replicat
 unfolding tells deed_of quiet
 tells_none rules lock places next zero = refl
 tells_none rules lock places next (suc n) =
-    ap (λ (h : Happening). deed_of rules lock (next + 1) h.event ++ tells rules lock (replicate places quiet) (next + 1) n) (quiet_here places next)
+    ap (λ (h : Option Event). deed_of rules lock (next + 1) h ++ tells rules lock (replicate places quiet) (next + 1) n) (quiet_here places next)
     ∙ tells_none rules lock places (next + 1) n
 
 -- a line says the steps that are done
 line-says : (steps letter first second : ℕ)
-    → line_of steps letter first second ≡ record { steps = steps; letter = letter; first = first; second = second; long = false; third = 0; fourth = 0 }
+    → line_of steps letter first second ≡ record { steps = steps; letter = letter; first = first; second = second; more = None }
 unfolding line_of
 line-says steps letter first second = refl
 
 -- an event's line reports its deed, in the step whose number it bears
-line-reports : (rules lock steps node : ℕ) (event : Event)
-    → reports rules lock (record { steps = steps; letter = event_letter event; first = node; second = event_lock event; long = false; third = 0; fourth = 0 })
+line-reports : (rules lock steps node : ℕ) (event : Option Event)
+    → reports rules lock (record { steps = steps; letter = event_letter event; first = node; second = event_lock event; more = None })
     ≡ apart (in_step steps) (deed_of rules lock node event)
 unfolding reports time_of_line deeds_of_line noted deed_of event_letter event_lock apart
-line-reports rules lock steps node Nothing = refl
-line-reports rules lock steps node (Granted own) = apart_if (in_step steps) (eqb own lock) (granted node)
-line-reports rules lock steps node (Failed own) = refl
-line-reports rules lock steps node (Lost own) = apart_if (in_step steps) (not (multiring rules) && eqb own lock) (ended node)
-line-reports rules lock steps node (Back own) = refl
-line-reports rules lock steps node (Sent own) = apart_if (in_step steps) (multiring rules && eqb own lock) (ended node)
+line-reports rules lock steps node None = refl
+line-reports rules lock steps node (Some (Granted own)) = apart_if (in_step steps) (eqb own lock) (granted node)
+line-reports rules lock steps node (Some (Failed own)) = refl
+line-reports rules lock steps node (Some (Lost own)) = apart_if (in_step steps) (not (multiring rules) && eqb own lock) (ended node)
+line-reports rules lock steps node (Some (Back own)) = refl
+line-reports rules lock steps node (Some (Sent own)) = apart_if (in_step steps) (multiring rules && eqb own lock) (ended node)
 
 pub event_reports : (rules lock : ℕ) (run : Run)
     → reports rules lock (event_line run) ≡ apart (in_step run.reached.steps) (deed_of rules lock (run.next + 1) (event_here run))
@@ -109,18 +109,18 @@ event_reports rules lock run =
     ap (reports rules lock) (line-says run.reached.steps _ _ _) ∙ line-reports rules lock run.reached.steps (run.next + 1) (event_here run)
 
 -- without a letter it is no grant and no ending
-pub no_event_lem : (rules lock node : ℕ) (event : Event) → is_event event ≡ false → deed_of rules lock node event ≡ []
+pub no_event_lem : (rules lock node : ℕ) (event : Option Event) → is_event event ≡ false → deed_of rules lock node event ≡ []
 unfolding deed_of is_event event_letter
-no_event_lem rules lock node Nothing e = refl
-no_event_lem rules lock node (Granted own) e = absurd (true≢false e)
-no_event_lem rules lock node (Failed own) e = refl
-no_event_lem rules lock node (Lost own) e = absurd (true≢false e)
-no_event_lem rules lock node (Back own) e = refl
-no_event_lem rules lock node (Sent own) e = absurd (true≢false e)
+no_event_lem rules lock node None e = refl
+no_event_lem rules lock node (Some (Granted own)) e = absurd (true≢false e)
+no_event_lem rules lock node (Some (Failed own)) e = refl
+no_event_lem rules lock node (Some (Lost own)) e = absurd (true≢false e)
+no_event_lem rules lock node (Some (Back own)) e = refl
+no_event_lem rules lock node (Some (Sent own)) e = absurd (true≢false e)
 
 -- an action's line reports an ending, after the steps done, where it is an accepted release under ring rules
 accepted_reports : (rules lock steps node own : ℕ) (action : Action)
-    → reports rules lock (record { steps = steps; letter = action_letter action; first = node; second = own; long = false; third = 0; fourth = 0 })
+    → reports rules lock (record { steps = steps; letter = action_letter action; first = node; second = own; more = None })
     ≡ noted (after_step steps) (deed_if (releases action && not (multiring rules) && eqb own lock) (ended node)) []
 unfolding reports time_of_line deeds_of_line noted action_letter releases deed_if
 accepted_reports rules lock steps node own Take = refl

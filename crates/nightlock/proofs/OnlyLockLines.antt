@@ -1,5 +1,6 @@
 -- Busy counts reach nothing but the H lines and themselves: along a course two runs that differ only in them stay so, and say the same but for the
 -- busy steps.
+use Rattle.std.specs.Prelude.{Option, None, Some}
 use Prim.Native.Nat.{ℕ, zero, suc, ◌-◌, min}
 use mathlib.Core.Path.{◌≡◌, refl, ◌∙◌, sym, ap, ap₂, subst}
 use mathlib.Core.Bool.{Bool, true, false, cond}
@@ -9,8 +10,7 @@ use lib.ListN.{get_or}
 use Rattle.lists.specs.Loops.{in_order}
 use Rattle.plan.specs.Plan.{node_count}
 use Rattle.turns.specs.declared.Event.{Event}
-use Rattle.turns.specs.declared.Event.TheVariants.{Nothing, Granted, Failed, Lost, Back, Sent}
-use Rattle.ring.specs.declared.Happening.{Happening}
+use Rattle.turns.specs.declared.Event.TheVariants.{Granted, Failed, Lost, Back, Sent}
 use Rattle.ring.specs.Walk.{quiet}
 use Rattle.ring.specs.Step.{stepping}
 use Rattle.tally.specs.declared.Tally.{Tally}
@@ -33,21 +33,21 @@ abbrev other : List ℕ → Tally → Tally
 other counts tally = record { busy = counts; grants = tally.grants; failed = tally.failed }
 
 -- an event is counted the same beside them
-event_other : (counts : List ℕ) (event : Event) (tally : Tally) → event_tally event (other counts tally) ≡ other counts (event_tally event tally)
+event_other : (counts : List ℕ) (event : Option Event) (tally : Tally) → event_tally event (other counts tally) ≡ other counts (event_tally event tally)
 unfolding event_tally
-event_other counts Nothing tally = refl
-event_other counts (Granted lock) tally = refl
-event_other counts (Failed lock) tally = refl
-event_other counts (Lost lock) tally = refl
-event_other counts (Back lock) tally = refl
-event_other counts (Sent lock) tally = refl
+event_other counts None tally = refl
+event_other counts (Some (Granted lock)) tally = refl
+event_other counts (Some (Failed lock)) tally = refl
+event_other counts (Some (Lost lock)) tally = refl
+event_other counts (Some (Back lock)) tally = refl
+event_other counts (Some (Sent lock)) tally = refl
 
-events_other : (counts : List ℕ) (events : List Happening) (n : ℕ) (tally : Tally)
+events_other : (counts : List ℕ) (events : List (Option Event)) (n : ℕ) (tally : Tally)
     → events_tally events n (other counts tally) ≡ other counts (events_tally events n tally)
 unfolding events_tally place_tally in_order
 events_other counts events zero tally = refl
 events_other counts events (suc n) tally =
-    ap (event_tally (get_or events n quiet).event) (events_other counts events n tally) ∙ event_other counts (get_or events n quiet).event _
+    ap (event_tally (get_or events n quiet)) (events_other counts events n tally) ∙ event_other counts (get_or events n quiet) _
 
 -- so a step leaves two runs that differ only in their busy counts
 step_other : (counts : List ℕ) (run : Run)
@@ -163,8 +163,8 @@ unfolding course_in working refusal_line all_said with_busy
 same_in Items ceiling schedule counts run = same_telling_all (on_steps ceiling schedule) (same_on_steps ceiling schedule) counts run
 same_in Ended ceiling schedule counts run = same_closing_all counts run
 same_in Cut ceiling schedule counts run = same_closing_all counts run
-same_in (Refused number place) ceiling schedule counts run =
-    same_says (refusal_line number place run) (refusal_line number place run) (with_busy counts run) run (with_busy counts (all_said run)) (all_said run)
+same_in (Refused refusal) ceiling schedule counts run =
+    same_says (refusal_line refusal run) (refusal_line refusal run) (with_busy counts run) run (with_busy counts (all_said run)) (all_said run)
     (silence (with_busy counts (all_said run))) (silence (all_said run)) (λ count. refl) (same_silence counts (all_said run))
 
 -- all is said, or not

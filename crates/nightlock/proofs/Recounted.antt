@@ -1,4 +1,5 @@
 -- Lines with another count of busy steps: only an H line changes, and where the count is the run's own no line does.
+use Rattle.std.specs.Prelude.{Option, None, Some}
 use Prim.Native.Nat.{ℕ}
 use mathlib.Core.Path.{◌≡◌, refl, sym, ap, ap₂}
 use mathlib.Core.Bool.{Bool, true, false, cond}
@@ -7,7 +8,7 @@ use lib.Dec.{eqb}
 use Rattle.acts.specs.declared.Action.{Action}
 use Rattle.acts.specs.declared.Action.TheVariants.{Take, Release, Force}
 use Rattle.turns.specs.declared.Event.{Event}
-use Rattle.turns.specs.declared.Event.TheVariants.{Nothing, Granted, Failed, Lost, Back, Sent}
+use Rattle.turns.specs.declared.Event.TheVariants.{Granted, Failed, Lost, Back, Sent}
 use Rattle.turns.specs.Turn.{event_letter, event_lock}
 use Rattle.items.specs.Items.{place_at}
 use Rattle.wording.specs.Wording.{text, line_of, action_letter, action_says, refused_says, event_says, lock_says, end_letter, last_says}
@@ -26,14 +27,14 @@ module _ (count : ℕ → ℕ → ℕ) where
   lock_recounted steps lock busy grants failed e = ap (λ (n : ℕ). lock_says steps lock n grants failed) (sym e)
 
   -- no other line is an H line
-  event_same : (steps place : ℕ) (event : Event) → recounted count (event_says steps place event) ≡ event_says steps place event
+  event_same : (steps place : ℕ) (event : Option Event) → recounted count (event_says steps place event) ≡ event_says steps place event
   unfolding recounted event_says line_of event_letter event_lock
-  event_same steps place Nothing = refl
-  event_same steps place (Granted lock) = refl
-  event_same steps place (Failed lock) = refl
-  event_same steps place (Lost lock) = refl
-  event_same steps place (Back lock) = refl
-  event_same steps place (Sent lock) = refl
+  event_same steps place None = refl
+  event_same steps place (Some (Granted lock)) = refl
+  event_same steps place (Some (Failed lock)) = refl
+  event_same steps place (Some (Lost lock)) = refl
+  event_same steps place (Some (Back lock)) = refl
+  event_same steps place (Some (Sent lock)) = refl
 
   pub event_recounted : (run : Run) → recounted count (event_line run) ≡ event_line run
   unfolding event_line

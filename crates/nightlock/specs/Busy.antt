@@ -8,7 +8,7 @@ use Rattle.usernode.specs.Node.{had}
 use Rattle.ring.specs.declared.State.{State}
 use Rattle.ring.specs.State.{rest_node, start_of}
 use Rattle.wording.specs.declared.Line.{Line}
-use Rattle.wording.specs.Wording.{text, lock_says}
+use Rattle.wording.specs.Wording.{text}
 use Rattle.course.specs.declared.Run.{Run}
 use Rattle.course.specs.Whole.{Said}
 use Rattle.onelock.specs.OneLock.{Item, step, act, after_item, Lock, free, held_by, broken}
@@ -36,7 +36,7 @@ file_steps so file steps lock = steps_after_which (so lock) steps (items_in file
 
 -- an H line with its busy steps by another count, of the steps done and the lock that it names; every other line as it is
 unfoldable pub recounted : (ℕ → ℕ → ℕ) → Line → Line
-recounted count line = cond (eqb line.letter 72) (lock_says line.steps line.first (count line.steps line.first) line.third line.fourth) line
+recounted count line = cond (eqb line.letter 72) (record line { second = count line.steps line.first }) line
 
 -- the lines so, as they are written
 unfoldable pub text_by : (ℕ → ℕ → ℕ) → List Said → List ℕ

@@ -1,13 +1,14 @@
 -- A plan without a byte of 5 is in range where it was, and has the ring, the user nodes and the junctions that it had.
 use Prim.Native.Nat.{ℕ, ◌≤◌, ◌<◌}
-use mathlib.Core.Path.{◌≡◌, refl, sym, ap, ◌∙◌}
-use mathlib.Core.Bool.{Bool, true, false, cond, not, ◌&&◌, ◌||◌}
+use mathlib.Core.Path.{◌≡◌, refl, ap, ◌∙◌}
+use mathlib.Core.Bool.{Bool, true, cond, not, ◌&&◌, ◌||◌}
 use native.Mathlib.Omega.{arith}
 use lib.Dec.{eqb, leb}
 use lib.ListN.{length, get_or}
 use borrow.Author.Tests.{leb-true, eqb-true, eqb-false, not-true, le-leb, eq-eqb}
 use Rattle.lists.specs.Loops.{every, total}
 use Rattle.lists.proofs.Laws.{and_left, and_right, every-at, every_each, total_at_most}
+use Rattle.lists.proofs.Exchanged.{both_ways}
 use Rattle.lists.proofs.Tests.{by_value, by_test, and_both, or_second}
 use Rattle.cars.specs.Cars.{multiring}
 use Rattle.positions.specs.Ring.{nodes_in, junctions_in}
@@ -18,11 +19,6 @@ use Rattle.plan.specs.Plan.{heads_in_range, positions_read, ring_of, junctions_a
 use Rattle.plan.proofs.Laws.{heads-in_range, in_range_lem}
 use Rattle.onelevel.specs.Before.{value_at, without_five, value_in_range, place_in_range, in_range_before, size_of, junctions_of, nodes_before, junctions_before}
 use Rattle.onelevel.proofs.Sums.{nodes_summed, junctions_summed}
-
--- two tests that say each other are the same
-same_test : (a b : Bool) → (a ≡ true → b ≡ true) → (b ≡ true → a ≡ true) → a ≡ b
-same_test true b to from = sym (to refl)
-same_test false b to from = by_value (λ t. false ≡ t) b (λ e. from e) (λ e. refl)
 
 -- a value of at most 4 has at most 4 user nodes
 size_most : (value : ℕ) → value ≤ 4 → size_of value ≤ 4
@@ -129,7 +125,7 @@ module _ (plan : Plan) (room : 16 ≤ length plan.values) where
         (every_each (place_in_range plan) plan.positions (λ place l. and_both (le-leb _ 4 (small_now e place l)) (flat_now e place l)))
 
     pub range_as_before : in_range plan ≡ in_range_before plan
-    range_as_before = same_test (in_range plan) (in_range_before plan) was_before still_in_range
+    range_as_before = both_ways (in_range plan) (in_range_before plan) was_before still_in_range
 
     -- what is counted where a plan is in range
     counts_same : (now before : ℕ) → (in_range_before plan ≡ true → now ≡ before) → cond (in_range plan) now 0 ≡ cond (in_range_before plan) before 0

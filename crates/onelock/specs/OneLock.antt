@@ -1,18 +1,17 @@
 -- Demand 3: "Take any accepted plan and any schedule from the start state, refused items among it, with nobody editing the state between calls."
-use Rattle.std.specs.Prelude.{ℕ, zero, suc, ◌+◌, ◌*◌, ◌≡◌, Bool, true, false, cond, not, ◌&&◌, List, [], ◌∷◌, ◌++◌, eqb, ltb, leb, get_or}
+use Rattle.std.specs.Prelude.{ℕ, zero, suc, ◌+◌, ◌*◌, ◌≡◌, Bool, true, false, cond, not, ◌&&◌, Option, None, Some, List, [], ◌∷◌, ◌++◌, eqb, ltb, leb, get_or}
 use Rattle.lists.specs.Loops.{some}
 use Rattle.cars.specs.Cars.{multiring}
 use Rattle.plan.specs.declared.Plan.{Plan}
 use Rattle.positions.specs.Ring.{Ring, no_more, user_node, a_junction, nodes_in}
 use Rattle.plan.specs.Plan.{ring_of, node_count}
 use Rattle.turns.specs.declared.Event.{Event}
-use Rattle.turns.specs.declared.Event.TheVariants.{Nothing, Granted, Failed, Lost, Back, Sent}
+use Rattle.turns.specs.declared.Event.TheVariants.{Granted, Failed, Lost, Back, Sent}
 use Rattle.usernode.specs.Node.{had}
 use Rattle.acts.specs.declared.Action.{Action}
 use Rattle.acts.specs.declared.Action.TheVariants.{Take, Release, Force}
 use Rattle.junction.specs.declared.Junction.{Junction}
 use Rattle.ring.specs.declared.State.{State}
-use Rattle.ring.specs.declared.Happening.{Happening}
 use Rattle.ring.specs.State.{rest_node, rest_junction, start_of}
 use Rattle.ring.specs.Actions.{acting}
 use Rattle.ring.specs.Walk.{quiet}
@@ -45,13 +44,13 @@ deed_if true deed = deed ∷ []
 deed_if false deed = []
 
 -- endings: "the release or the force car's arrival at the holder"; "the step in which the holder's didv car goes on the train"
-unfoldable pub deed_of : ℕ → ℕ → ℕ → Event → List Deed
-deed_of rules lock node Nothing = []
-deed_of rules lock node (Granted own) = deed_if (eqb own lock) (granted node)
-deed_of rules lock node (Failed own) = []
-deed_of rules lock node (Lost own) = deed_if (not (multiring rules) && eqb own lock) (ended node)
-deed_of rules lock node (Back own) = []
-deed_of rules lock node (Sent own) = deed_if (multiring rules && eqb own lock) (ended node)
+unfoldable pub deed_of : ℕ → ℕ → ℕ → Option Event → List Deed
+deed_of rules lock node None = []
+deed_of rules lock node (Some (Granted own)) = deed_if (eqb own lock) (granted node)
+deed_of rules lock node (Some (Failed own)) = []
+deed_of rules lock node (Some (Lost own)) = deed_if (not (multiring rules) && eqb own lock) (ended node)
+deed_of rules lock node (Some (Back own)) = []
+deed_of rules lock node (Some (Sent own)) = deed_if (multiring rules && eqb own lock) (ended node)
 
 unfoldable pub releases : Action → Bool
 releases Take = false
@@ -59,9 +58,9 @@ releases Release = true
 releases Force = false
 
 -- the deeds of the first nodes in a step
-unfoldable pub deeds_in : ℕ → ℕ → List Happening → ℕ → List Deed
+unfoldable pub deeds_in : ℕ → ℕ → List (Option Event) → ℕ → List Deed
 deeds_in rules lock events zero = []
-deeds_in rules lock events (suc n) = deeds_in rules lock events n ++ deed_of rules lock (suc n) (get_or events n quiet).event
+deeds_in rules lock events (suc n) = deeds_in rules lock events n ++ deed_of rules lock (suc n) (get_or events n quiet)
 
 -- the deeds of an item, of this lock
 unfoldable pub deeds_of : ℕ → Item → State → List Deed

@@ -1,4 +1,5 @@
 -- What holds of a run when all is said: its plan is its file's, its three lists have 64 places each, and what is counted is small.
+use Rattle.std.specs.Prelude.{Option, None, Some}
 use Prim.Native.Nat.{ℕ, zero, suc, ◌+◌, ◌*◌, ◌≤◌, ◌<◌, min}
 use mathlib.Core.Path.{◌≡◌, refl, ◌∙◌, ap}
 use mathlib.Core.List.{List}
@@ -12,8 +13,7 @@ use Rattle.plan.proofs.Laws.{in_range_lem}
 use Rattle.acts.specs.declared.Action.{Action}
 use Rattle.usernode.specs.declared.Node.{Node}
 use Rattle.turns.specs.declared.Event.{Event}
-use Rattle.turns.specs.declared.Event.TheVariants.{Nothing, Granted, Failed, Lost, Back, Sent}
-use Rattle.ring.specs.declared.Happening.{Happening}
+use Rattle.turns.specs.declared.Event.TheVariants.{Granted, Failed, Lost, Back, Sent}
 use Rattle.ring.specs.State.{start_of, start_state}
 use Rattle.ring.specs.Walk.{quiet}
 use Rattle.ring.proofs.Laws.{stepping_plan}
@@ -38,39 +38,39 @@ use Rattle.ownsheet.specs.Theorems.{TheLocksAreThePlans}
 -- ---- the places
 
 -- an event leaves as many places
-event_grants : (event : Event) (tally : Tally) → length (event_tally event tally).grants ≡ length tally.grants
+event_grants : (event : Option Event) (tally : Tally) → length (event_tally event tally).grants ≡ length tally.grants
 unfolding event_tally counted
-event_grants Nothing tally = refl
-event_grants (Granted lock) tally = length-set tally.grants lock _
-event_grants (Failed lock) tally = refl
-event_grants (Lost lock) tally = refl
-event_grants (Back lock) tally = refl
-event_grants (Sent lock) tally = refl
+event_grants None tally = refl
+event_grants (Some (Granted lock)) tally = length-set tally.grants lock _
+event_grants (Some (Failed lock)) tally = refl
+event_grants (Some (Lost lock)) tally = refl
+event_grants (Some (Back lock)) tally = refl
+event_grants (Some (Sent lock)) tally = refl
 
-event_failed : (event : Event) (tally : Tally) → length (event_tally event tally).failed ≡ length tally.failed
+event_failed : (event : Option Event) (tally : Tally) → length (event_tally event tally).failed ≡ length tally.failed
 unfolding event_tally counted
-event_failed Nothing tally = refl
-event_failed (Granted lock) tally = refl
-event_failed (Failed lock) tally = length-set tally.failed lock _
-event_failed (Lost lock) tally = refl
-event_failed (Back lock) tally = refl
-event_failed (Sent lock) tally = refl
+event_failed None tally = refl
+event_failed (Some (Granted lock)) tally = refl
+event_failed (Some (Failed lock)) tally = length-set tally.failed lock _
+event_failed (Some (Lost lock)) tally = refl
+event_failed (Some (Back lock)) tally = refl
+event_failed (Some (Sent lock)) tally = refl
 
 -- so do those of so many nodes
-events_grants : (events : List Happening) (count : ℕ) (tally : Tally) → length (events_tally events count tally).grants ≡ length tally.grants
+events_grants : (events : List (Option Event)) (count : ℕ) (tally : Tally) → length (events_tally events count tally).grants ≡ length tally.grants
 unfolding events_tally place_tally in_order
 events_grants events zero tally = refl
 events_grants events (suc count) tally =
-    event_grants (get_or events count quiet).event (events_tally events count tally) ∙ events_grants events count tally
+    event_grants (get_or events count quiet) (events_tally events count tally) ∙ events_grants events count tally
 
-events_failed : (events : List Happening) (count : ℕ) (tally : Tally) → length (events_tally events count tally).failed ≡ length tally.failed
+events_failed : (events : List (Option Event)) (count : ℕ) (tally : Tally) → length (events_tally events count tally).failed ≡ length tally.failed
 unfolding events_tally place_tally in_order
 events_failed events zero tally = refl
 events_failed events (suc count) tally =
-    event_failed (get_or events count quiet).event (events_tally events count tally) ∙ events_failed events count tally
+    event_failed (get_or events count quiet) (events_tally events count tally) ∙ events_failed events count tally
 
 -- a step
-module _ (nodes : List Node) (events : List Happening) (count locks : ℕ) (tally : Tally) where
+module _ (nodes : List Node) (events : List (Option Event)) (count locks : ℕ) (tally : Tally) where
   step_grants : length (step_tally nodes events count locks tally).grants ≡ length tally.grants
   unfolding step_tally
   step_grants = events_grants events (min count 64) tally

@@ -1,4 +1,5 @@
 -- The lines of an accepted file: first those of actions and events, then the lines of the end. An induction along the run's course.
+use Rattle.std.specs.Prelude.{Option, None, Some}
 use Prim.Native.Nat.{ℕ, zero, suc, ◌-◌}
 use mathlib.Core.Path.{◌≡◌, refl, ◌∙◌, sym, ap, ap₂, subst}
 use mathlib.Core.Bool.{Bool, true, false, cond, true≢false}
@@ -9,7 +10,7 @@ use Rattle.lists.proofs.Tests.{and_both, by_test}
 use Rattle.acts.specs.declared.Action.{Action}
 use Rattle.acts.specs.declared.Action.TheVariants.{Take, Release, Force}
 use Rattle.turns.specs.declared.Event.{Event}
-use Rattle.turns.specs.declared.Event.TheVariants.{Nothing, Granted, Failed, Lost, Back, Sent}
+use Rattle.turns.specs.declared.Event.TheVariants.{Granted, Failed, Lost, Back, Sent}
 use Rattle.turns.specs.Turn.{event_letter}
 use Rattle.items.specs.declared.Item.{Item}
 use Rattle.items.specs.declared.Item.TheVariants.{Steps, Act}
@@ -36,14 +37,14 @@ use Rattle.ownsheet.specs.Theorems.{TheLinesEndWithTheNumbers}
 -- ---- the lines before the end
 
 -- an event's line
-event_deed : (steps place : ℕ) (event : Event) → is_event event ≡ true → is_deed (event_says steps place event) ≡ true
+event_deed : (steps place : ℕ) (event : Option Event) → is_event event ≡ true → is_deed (event_says steps place event) ≡ true
 unfolding is_event is_deed is_deed_letter event_says line_of event_letter
-event_deed steps place Nothing e = absurd (true≢false (sym e))
-event_deed steps place (Granted lock) e = refl
-event_deed steps place (Failed lock) e = refl
-event_deed steps place (Lost lock) e = refl
-event_deed steps place (Back lock) e = refl
-event_deed steps place (Sent lock) e = refl
+event_deed steps place None e = absurd (true≢false (sym e))
+event_deed steps place (Some (Granted lock)) e = refl
+event_deed steps place (Some (Failed lock)) e = refl
+event_deed steps place (Some (Lost lock)) e = refl
+event_deed steps place (Some (Back lock)) e = refl
+event_deed steps place (Some (Sent lock)) e = refl
 
 -- an action's line, accepted or refused
 accepted_deed : (steps : ℕ) (action : Action) (node lock : ℕ) → is_deed (action_says steps action node lock) ≡ true

@@ -7,6 +7,7 @@ use lib.Dec.{eqb, leb}
 use borrow.Author.Tests.{leb-true}
 use Rattle.lists.proofs.Laws.{and_left, and_right}
 use Rattle.cars.specs.Cars.{multiring}
+use Rattle.std.specs.Prelude.{Option, Some, None, option_and_then}
 use Rattle.positions.specs.declared.Survey.{Survey}
 use Rattle.positions.specs.Ring.{nodes_in, junctions_in}
 use Rattle.positions.specs.Reading.{main_ring, survey_of}
@@ -106,29 +107,59 @@ pub junctions_most : (plan : Plan) → junction_count plan ≤ 144
 unfolding junction_count
 junctions_most plan = bounded (in_range plan) _ 144 (junctions_count_most plan)
 
--- what a plan that is out of range has
-abbrev pub nothing : Survey
-nothing = record { right = false; nodes = 0; junctions = 0 }
+-- what the survey of a plan says, by its parts
+abbrev told : Bool → ℕ → ℕ → Option Survey
+told right nodes junctions = cond right (Some (record { nodes = nodes; junctions = junctions })) None
 
--- the survey of a plan: of its heads, then of its positions
-pub survey_of_heads : (plan : Plan) → heads_in_range plan ≡ true → (s : Survey) → s ≡ survey_of (main_ring plan.values plan.positions)
-    → cond (s.right && leb s.nodes 64 && (multiring plan.rules || eqb s.junctions 0)) s nothing ≡ plan_survey plan
+-- the survey of a plan: of its heads, then of its positions, then of its numbers
+survey_of_heads : (plan : Plan) → heads_in_range plan ≡ true → (found : Option Survey) → found ≡ survey_of (main_ring plan.values plan.positions)
+    → option_and_then (λ (s : Survey). cond (leb s.nodes 64 && (multiring plan.rules || eqb s.junctions 0)) (Some s) None) found ≡ plan_survey plan
 unfolding plan_survey node_count junction_count in_range junctions_allowed ring_of positions_read survey_of
-survey_of_heads plan h s e =
+survey_of_heads plan h found e =
     let read = main_ring plan.values plan.positions in
     rw e (rw h (go read.right (nodes_in read.ring) (junctions_in read.ring) (multiring plan.rules)))
   where
-    one : (b : Bool) (n j : ℕ) → cond b (record { right = true; nodes = n; junctions = j }) nothing ≡ record { right = b; nodes = cond b n 0; junctions = cond b j 0 }
+    one : (b : Bool) (n j : ℕ) → told b n j ≡ told b (cond b n 0) (cond b j 0)
     one true n j = refl
     one false n j = refl
 
     go : (right : Bool) (n j : ℕ) (m : Bool)
-        → (let s : Survey = cond right (record { right = true; nodes = n; junctions = j }) nothing in
-        cond (s.right && leb s.nodes 64 && (m || eqb s.junctions 0)) s nothing)
-        ≡ (let b : Bool = true && right && leb n 64 && (m || eqb j 0) in record { right = b; nodes = cond b n 0; junctions = cond b j 0 })
+        → option_and_then (λ (s : Survey). cond (leb s.nodes 64 && (m || eqb s.junctions 0)) (Some s) None) (told right n j)
+        ≡ (let b : Bool = true && right && leb n 64 && (m || eqb j 0) in told b (cond b n 0) (cond b j 0))
     go true n j m = one (leb n 64 && (m || eqb j 0)) n j
     go false n j m = refl
 
-pub survey_of_none : (plan : Plan) → heads_in_range plan ≡ false → nothing ≡ plan_survey plan
-unfolding plan_survey node_count junction_count in_range
+-- by what was found: nothing, more than is allowed, or what is allowed
+pub survey_wrong : (plan : Plan) → heads_in_range plan ≡ true → None ≡ survey_of (main_ring plan.values plan.positions) → None ≡ plan_survey plan
+survey_wrong plan h e = survey_of_heads plan h None e
+
+pub survey_right : (plan : Plan) {survey : Survey} → heads_in_range plan ≡ true → Some survey ≡ survey_of (main_ring plan.values plan.positions)
+    → (leb survey.nodes 64 && (multiring plan.rules || eqb survey.junctions 0)) ≡ true → Some survey ≡ plan_survey plan
+survey_right plan {survey} h e allowed = rw allowed at (survey_of_heads plan h (Some survey) e)
+
+pub survey_forbidden : (plan : Plan) {survey : Survey} → heads_in_range plan ≡ true → Some survey ≡ survey_of (main_ring plan.values plan.positions)
+    → (leb survey.nodes 64 && (multiring plan.rules || eqb survey.junctions 0)) ≡ false → None ≡ plan_survey plan
+survey_forbidden plan {survey} h e allowed = rw allowed at (survey_of_heads plan h (Some survey) e)
+
+pub survey_of_none : (plan : Plan) → heads_in_range plan ≡ false → None ≡ plan_survey plan
+unfolding plan_survey in_range
 survey_of_none plan h = rw h refl
+
+-- what the survey of a plan says of it: it is in range and has so many user nodes and junctions, or it is not in range
+pub survey_some : (plan : Plan) {survey : Survey} → Some survey ≡ plan_survey plan
+    → (in_range plan ≡ true) × (survey.nodes ≡ node_count plan) × (survey.junctions ≡ junction_count plan)
+unfolding plan_survey
+survey_some plan {survey} e = go (in_range plan) refl e
+  where
+    go : (b : Bool) → in_range plan ≡ b → Some survey ≡ told b (node_count plan) (junction_count plan)
+        → (in_range plan ≡ true) × (survey.nodes ≡ node_count plan) × (survey.junctions ≡ junction_count plan)
+    go true right e = (right, cc, cc)
+    go false right e = absurd (cc)
+
+pub survey_none : (plan : Plan) → None ≡ plan_survey plan → in_range plan ≡ false
+unfolding plan_survey
+survey_none plan e = go (in_range plan) e
+  where
+    go : (b : Bool) → None ≡ told b (node_count plan) (junction_count plan) → b ≡ false
+    go true e = absurd (cc)
+    go false e = refl

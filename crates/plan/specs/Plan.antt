@@ -1,6 +1,6 @@
 -- 01, "The plan and the things in it", with docs/NESTED.md, "The plan": the ranges of a plan's values (number 4), its ring, its user nodes and
 -- junctions.
-use Rattle.std.specs.Prelude.{ℕ, Bool, cond, ◌&&◌, ◌||◌, eqb, leb}
+use Rattle.std.specs.Prelude.{ℕ, Bool, cond, ◌&&◌, ◌||◌, eqb, leb, Option, Some, None}
 use Rattle.cars.specs.Cars.{multiring}
 use Rattle.positions.specs.declared.Survey.{Survey}
 use Rattle.positions.specs.Ring.{Ring, nodes_in, junctions_in}
@@ -55,5 +55,5 @@ unfoldable pub junction_count : Plan → ℕ
 junction_count plan = cond (in_range plan) (junctions_in (ring_of plan)) 0
 
 -- all three at once
-unfoldable pub plan_survey : Plan → Survey
-plan_survey plan = record { right = in_range plan; nodes = node_count plan; junctions = junction_count plan }
+unfoldable pub plan_survey : Plan → Option Survey
+plan_survey plan = cond (in_range plan) (Some (record { nodes = node_count plan; junctions = junction_count plan })) None

@@ -1,7 +1,7 @@
 // The plan: rules, locks and the positions round the main ring; its range (4), and how many nodes and junctions it has.
 #![tactic(auto)]
 
-ghost use Rattle.std.specs.Prelude.{◌≡◌, false, cond, ◌&&◌, ◌||◌, eqb, leb};
+ghost use Rattle.std.specs.Prelude.{◌≡◌, ◌&&◌, ◌||◌, eqb, leb};
 ghost use Rattle.cars.specs.Cars.{multiring};
 ghost use Rattle.plan.specs.Plan.{heads_in_range, in_range, node_count, junction_count, plan_survey};
 
@@ -12,8 +12,9 @@ pub const NODES: usize = 64;
 
 pub const JUNCTIONS: usize = 144;
 
-// The bytes of the positions stand at the first places of `values`; `positions` counts those of the main ring.
-#[derive(Clone, Copy)]
+// The bytes of the positions stand at the first places of `values`; `positions` counts those of the main ring. The memory is fixed, so they are an array,
+// and the bytes behind them are the plan's too. `rules` is a byte: a made-up plan may have any, and 4 and 13 are promised of it.
+#[derive(Clone, Copy, Debug, PartialEq, Eq)]
 pub struct Plan {
     pub rules: u8,
     pub locks: u8,
@@ -21,102 +22,63 @@ pub struct Plan {
     pub values: [u8; VALUES],
 }
 
-// Whether the rules allow so many junctions.
-fn junctions_allowed(rules: u8, junctions: u16) -> bool
-    ensures { result ≡ (multiring rules || eqb junctions 0) }
+// Whether the number of user nodes and the rules allow what was surveyed.
+fn allowed(rules: u8, survey: Survey) -> bool
+    ensures { result ≡ (leb survey.nodes 64 && (multiring rules || eqb survey.junctions 0)) }
 {
-    if cars::multiring(rules) {
-        return true;
-    }
-    junctions == 0
-}
-
-// A plan that is out of range.
-fn out_of_range() -> Survey
-    ensures { result ≡ record { right = false; nodes = 0; junctions = 0 } }
-{
-    Survey {
-        right: false,
-        nodes: 0,
-        junctions: 0,
-    }
-}
-
-// What was surveyed of the positions, where it is right and the rules and the number of user nodes allow it.
-fn allowed(right: bool, rules: u8, survey: Survey) -> Survey
-    ensures { result ≡ cond (right && leb survey.nodes 64 && (multiring rules || eqb survey.junctions 0)) survey (record { right = false; nodes = 0; junctions = 0 }) }
-{
-    if right {
-        if survey.nodes <= 64 {
-            if junctions_allowed(rules, survey.junctions) {
-                return survey;
-            }
-            return out_of_range();
-        }
-        return out_of_range();
-    }
-    out_of_range()
+    survey.nodes <= 64 && (cars::multiring(rules) || survey.junctions == 0)
 }
 
 impl Plan {
     // Whether rules, locks and the number of positions are in range.
+    #[tactic(auto, unfolding(crate::specs::Plan::heads_in_range))]
     fn heads_in_range(self) -> bool
         ensures { result ≡ heads_in_range self }
     {
-        let rules = self.rules;
-        let locks = self.locks;
-        let positions = self.positions;
-        if rules < 1 {
-            return false;
-        }
-        if 4 < rules {
-            return false;
-        }
-        if locks < 1 {
-            return false;
-        }
-        if 64 < locks {
-            return false;
-        }
-        if positions < 1 {
-            return false;
-        }
-        positions <= 16
+        (1..=4).contains(&self.rules)
+            && (1..=64).contains(&self.locks)
+            && (1..=16).contains(&self.positions)
     }
 
-    // Whether every value of the plan is in its range, its user nodes and its junctions; 0 of each where it is not.
-    pub fn survey(self) -> Survey
+    // The user nodes and the junctions of a plan of which every value is in its range.
+    #[tactic(auto, using(crate::proofs::Laws::survey_right, crate::proofs::Laws::survey_wrong, crate::proofs::Laws::survey_forbidden, crate::proofs::Laws::survey_of_none))]
+    pub fn survey(self) -> Option<Survey>
         ensures { result ≡ plan_survey self }
     {
-        if self.heads_in_range() {
-            let values = self.values;
-            let survey = positions::survey_of(values, self.positions);
-            return allowed(survey.right, self.rules, survey);
+        if !self.heads_in_range() {
+            return None;
         }
-        out_of_range()
+        let survey = positions::survey_of(self.values, self.positions)?;
+        allowed(self.rules, survey).then_some(survey)
     }
 
     // Whether every value of the plan is in its range.
+    #[tactic(auto, using(crate::proofs::Laws::survey_some, crate::proofs::Laws::survey_none))]
     pub fn in_range(self) -> bool
         ensures { result ≡ in_range self }
     {
-        let survey = self.survey();
-        survey.right
+        self.survey().is_some()
     }
 
-    // The number of user nodes; 0 for a plan out of range.
+    // The number of user nodes; 0 for a plan out of range, as `node_count` says of every plan: `survey` tells whether it is in range.
+    #[tactic(auto, using(crate::proofs::Laws::survey_some, crate::proofs::Laws::survey_none, crate::proofs::Laws::nodes_most), unfolding(crate::specs::Plan::node_count))]
     pub fn nodes(self) -> u8
         ensures { result ≡ node_count self }
     {
-        let survey = self.survey();
-        survey.nodes as u8
+        match self.survey() {
+            Some(survey) => survey.nodes as u8,
+            None => 0,
+        }
     }
 
-    // The number of junctions; 0 for a plan out of range.
+    // The number of junctions; 0 for a plan out of range, as `junction_count` says of every plan.
+    #[tactic(auto, using(crate::proofs::Laws::survey_some, crate::proofs::Laws::survey_none, crate::proofs::Laws::junctions_most), unfolding(crate::specs::Plan::junction_count))]
     pub fn junctions(self) -> u8
         ensures { result ≡ junction_count self }
     {
-        let survey = self.survey();
-        survey.junctions as u8
+        match self.survey() {
+            Some(survey) => survey.junctions as u8,
+            None => 0,
+        }
     }
 }

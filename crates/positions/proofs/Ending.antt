@@ -1,15 +1,16 @@
 -- Laws of number 3: what bytes that end exactly have, one byte at a time.
-use Prim.Native.Nat.{ℕ, zero, suc, ◌+◌, ◌-◌, ◌^◌, ◌≤◌, ◌<◌}
+use Prim.Native.Nat.{ℕ, zero, suc, min, ◌+◌, ◌-◌, ◌^◌, ◌≤◌, ◌<◌}
 use mathlib.Core.Path.{◌≡◌, refl, sym, ap, ◌∙◌}
-use mathlib.Core.Bool.{Bool, true, false, true≢false}
+use mathlib.Core.Bool.{Bool, true, false, not, ◌&&◌, true≢false}
 use mathlib.Core.List.{List, [], ◌∷◌}
+use mathlib.Core.Logic.{⊎_elim}
 use native.Mathlib.Numerals.{add-one}
 use native.Mathlib.Omega.{arith}
-use lib.Dec.{eqb, leb, eqb-suc-zero}
-use borrow.Author.Tests.{leb-true, leb-false, le-leb, lt-leb}
+use lib.Dec.{eqb, eqb-suc-zero}
+use borrow.Author.Tests.{ne_eqb}
 use lib.ListN.{length, get_or, drop, length-drop, drop_of_length-le}
 use lib.Seq.{drop-cons}
-use Rattle.lists.proofs.Tests.{by_value}
+use Rattle.lists.proofs.Tests.{by_value, at_most_or_above}
 use Rattle.positions.specs.Shape.{ends_at}
 
 -- the bytes from a place on are the one there and those behind it
@@ -30,102 +31,61 @@ pub ends_short : (opening : Bool) (coming : ℕ) (bytes : List ℕ) → length b
 ends_short opening coming bytes short =
     by_value (λ b. b ≡ false) (ends_at opening coming bytes) (λ e. let f = ends_room opening coming bytes e in absurd (omega (arith, f, short))) (λ e. refl)
 
--- where a look at bytes stands: so many positions are still to come, and so many bytes from a place on
-pub record Ending (bytes : List ℕ) (count room coming : ℕ) (opening : Bool) (place : ℕ) : Type 0 where
-  pub all : place + room ≡ length bytes
-  pub small : room < 2 ^ 64
-  pub same : ends_at opening coming (drop place bytes) ≡ ends_at false count bytes
-
-ends_more : (coming byte : ℕ) (bytes : List ℕ) → (coming ≡ 0 → ⊥) → ends_at false coming (byte ∷ bytes) ≡ ends_at (eqb byte 5) (coming - 1) bytes
+-- one byte of those that are left, with what is to come behind it: a position, where one is to come
+pub ending_position : (bytes : List ℕ) (count coming place : ℕ) → place < length bytes → (coming ≡ 0 → ⊥)
+    → ends_at false coming (drop place bytes) ≡ ends_at false count bytes
+    → ends_at (eqb (get_or bytes place 0) 5) (coming - 1) (drop (place + 1) bytes) ≡ ends_at false count bytes
 unfolding ends_at
-ends_more zero byte bytes some = absurd (some refl)
-ends_more (suc coming) byte bytes some = let e : coming ≡ suc coming - 1 = omega arith in ap (λ n. ends_at (eqb byte 5) n bytes) e
+ending_position bytes count zero place there more so = absurd (more refl)
+ending_position bytes count (suc coming) place there more so =
+    let less : suc coming - 1 ≡ coming = omega arith in
+    ap (λ n. ends_at (eqb (get_or bytes place 0) 5) n (drop (place + 1) bytes)) less
+    ∙ sym (ap (ends_at false (suc coming)) (drop-first bytes place there))
+    ∙ so
 
-ends_count : (coming byte : ℕ) (bytes : List ℕ) → ends_at true coming (byte ∷ bytes) ≡ ends_at false (coming + byte) bytes
+-- where none is to come, the byte is one too many
+pub ended_early : (bytes : List ℕ) (count place : ℕ) → place < length bytes → ends_at false 0 (drop place bytes) ≡ ends_at false count bytes
+    → false ≡ ends_at false count bytes
 unfolding ends_at
-ends_count coming byte bytes = refl
+ended_early bytes count place there so = sym (ap (ends_at false 0) (drop-first bytes place there)) ∙ so
 
--- a byte that is a count
-pub ending_count : {bytes : List ℕ} {count room coming place : ℕ} {opening : Bool} → Ending bytes count room coming opening place → 0 < room
-    → opening ≡ true → Ending bytes count (room - 1) (coming + get_or bytes place 0) false (place + 1)
-ending_count {bytes} {count} {room} {coming} {place} so some opening =
-    let all = so.all in
-    let small = so.small in
-    let there : place < length bytes = omega (arith, all, some) in
-    record {
-      all = omega (arith, all, some);
-      small = omega (arith, small);
-      same = sym (ends_count coming (get_or bytes place 0) (drop (place + 1) bytes))
-          ∙ sym (ap (ends_at true coming) (drop-first bytes place there))
-          ∙ ap (λ b. ends_at b coming (drop place bytes)) (sym opening)
-          ∙ so.same;
-    }
+-- more positions than the largest number never end where so many bytes can be left, and no more does the largest number of them
+ends_most : (coming : ℕ) (bytes : List ℕ) → length bytes < 2 ^ 64 - 1 → ends_at false (min coming (2 ^ 64 - 1)) bytes ≡ ends_at false coming bytes
+ends_most coming bytes few =
+    ⊎_elim
+    (λ fits. let same : min coming (2 ^ 64 - 1) ≡ coming = omega (arith, fits) in ap (λ n. ends_at false n bytes) same)
+    (λ over. ends_short false (min coming (2 ^ 64 - 1)) bytes (omega (arith, over, few)) ∙ sym (ends_short false coming bytes (omega (arith, over, few))))
+    (at_most_or_above coming (2 ^ 64 - 1))
 
--- a byte that is a position
-pub ending_position : {bytes : List ℕ} {count room coming place : ℕ} {opening : Bool} → Ending bytes count room coming opening place → 0 < room
-    → opening ≡ false → (coming ≡ 0 → ⊥) → Ending bytes count (room - 1) (coming - 1) (eqb (get_or bytes place 0) 5) (place + 1)
-ending_position {bytes} {count} {room} {coming} {place} so some opening more =
-    let all = so.all in
-    let small = so.small in
-    let there : place < length bytes = omega (arith, all, some) in
-    record {
-      all = omega (arith, all, some);
-      small = omega (arith, small);
-      same = sym (ends_more coming (get_or bytes place 0) (drop (place + 1) bytes) more)
-          ∙ sym (ap (ends_at false coming) (drop-first bytes place there))
-          ∙ ap (λ b. ends_at b coming (drop place bytes)) (sym opening)
-          ∙ so.same;
-    }
-
--- a count that brings more than bytes are left
-pub ended_short : {bytes : List ℕ} {count room coming place : ℕ} {opening : Bool} → Ending bytes count room coming opening place → 0 < room
-    → opening ≡ true → leb (coming + get_or bytes place 0) room ≡ false → false ≡ ends_at false count bytes
-ended_short {bytes} {count} {room} {coming} {place} so some opening short =
-    let brought = get_or bytes place 0 in
-    let next = ending_count so some opening in
-    let all = next.all in
-    let few = leb-false (coming + brought) room short in
+-- a count, and the positions that it brings
+pub ending_count : (bytes : List ℕ) (count coming place : ℕ) → place < length bytes → length bytes < 2 ^ 64
+    → ends_at true coming (drop place bytes) ≡ ends_at false count bytes
+    → ends_at false (min (coming + get_or bytes place 0) (2 ^ 64 - 1)) (drop (place + 1) bytes) ≡ ends_at false count bytes
+unfolding ends_at
+ending_count bytes count coming place there small so =
     let left = length-drop (place + 1) bytes in
-    let less : length (drop (place + 1) bytes) < coming + brought = omega (arith, all, few, left) in
-    sym (ends_short false (coming + brought) (drop (place + 1) bytes) less) ∙ next.same
+    ends_most (coming + get_or bytes place 0) (drop (place + 1) bytes) (omega (arith, left, there, small))
+    ∙ sym (ap (ends_at true coming) (drop-first bytes place there))
+    ∙ so
 
--- a byte with no position to come
-pub ended_early : {bytes : List ℕ} {count room coming place : ℕ} {opening : Bool} → Ending bytes count room coming opening place → 0 < room
-    → opening ≡ false → coming ≡ 0 → false ≡ ends_at false count bytes
+-- and the end of the bytes
+at_end_lem : (opening : Bool) (coming : ℕ) → (eqb coming 0 && not opening) ≡ ends_at opening coming []
 unfolding ends_at
-ended_early {bytes} {count} {room} {coming} {place} so some opening none =
-    let all = so.all in
-    let there : place < length bytes = omega (arith, all, some) in
-    sym (ap (ends_at false 0) (drop-first bytes place there))
-    ∙ sym (ap (λ n. ends_at false n (drop place bytes)) none)
-    ∙ ap (λ b. ends_at b coming (drop place bytes)) (sym opening)
-    ∙ so.same
+at_end_lem false zero = refl
+at_end_lem false (suc coming) = rw (eqb-suc-zero coming) refl
+at_end_lem true zero = refl
+at_end_lem true (suc coming) = rw (eqb-suc-zero coming) refl
 
--- the end of the bytes
-at_end_lem : {bytes : List ℕ} {count room coming place : ℕ} {opening : Bool} → Ending bytes count room coming opening place → room ≤ 0
-    → ends_at opening coming [] ≡ ends_at false count bytes
-at_end_lem {bytes} {coming = coming} {place} {opening} so none =
-    let all = so.all in
-    let behind : length bytes ≤ place = omega (arith, all, none) in
-    sym (ap (ends_at opening coming) (drop_of_length-le bytes behind)) ∙ so.same
+ended_all : (bytes : List ℕ) (count coming place : ℕ) (opening : Bool) → length bytes ≤ place
+    → ends_at opening coming (drop place bytes) ≡ ends_at false count bytes → (eqb coming 0 && not opening) ≡ ends_at false count bytes
+ended_all bytes count coming place opening none so = at_end_lem opening coming ∙ sym (ap (ends_at opening coming) (drop_of_length-le bytes none)) ∙ so
 
-pub ended_opening : {bytes : List ℕ} {count room coming place : ℕ} {opening : Bool} → Ending bytes count room coming opening place → room ≤ 0
-    → opening ≡ true → false ≡ ends_at false count bytes
-unfolding ends_at
-ended_opening {coming = coming} so none opening = sym (ap (λ b. ends_at b coming []) opening) ∙ at_end_lem so none
+-- where no position is to come, by whether a count is; and where one is
+pub ended_none : (bytes : List ℕ) (count coming place : ℕ) (opening : Bool) → length bytes ≤ place
+    → ends_at opening coming (drop place bytes) ≡ ends_at false count bytes → coming ≡ 0 → not opening ≡ ends_at false count bytes
+ended_none bytes count coming place opening none so e = rw e at (ended_all bytes count coming place opening none so)
 
-no_byte : (coming : ℕ) → eqb coming 0 ≡ ends_at false coming []
-unfolding ends_at
-no_byte zero = refl
-no_byte (suc coming) = eqb-suc-zero coming
-
-pub ended_all : {bytes : List ℕ} {count room coming place : ℕ} {opening : Bool} → Ending bytes count room coming opening place → room ≤ 0
-    → opening ≡ false → eqb coming 0 ≡ ends_at false count bytes
-ended_all {coming = coming} so none opening = no_byte coming ∙ sym (ap (λ b. ends_at b coming []) opening) ∙ at_end_lem so none
-
--- whether the bytes that are left are enough, without a sum
-pub enough_room : (room coming brought : ℕ) → coming ≤ room → leb brought (room - coming) ≡ leb (coming + brought) room
-enough_room room coming brought some =
-    by_value (λ b. leb brought (room - coming) ≡ b) (leb (coming + brought) room)
-    (λ e. let fits = leb-true (coming + brought) room e in le-leb brought (room - coming) (omega (arith, fits, some)))
-    (λ e. let over = leb-false (coming + brought) room e in lt-leb brought (room - coming) (omega (arith, over, some)))
+pub ended_more : (bytes : List ℕ) (count coming place : ℕ) (opening : Bool) → length bytes ≤ place
+    → ends_at opening coming (drop place bytes) ≡ ends_at false count bytes → (coming ≡ 0 → ⊥) → eqb coming 0 ≡ ends_at false count bytes
+ended_more bytes count coming place opening none so some =
+    let more = ne_eqb coming 0 some in more ∙ (rw more at (ended_all bytes count coming place opening none so))

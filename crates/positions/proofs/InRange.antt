@@ -4,6 +4,7 @@ use mathlib.Core.Path.{◌≡◌, refl, sym, subst, ◌∙◌, ap}
 use mathlib.Core.Bool.{Bool, true, false, cond, true≢false}
 use mathlib.Core.List.{List}
 use lib.ListN.{length, get_or}
+use Rattle.std.specs.Prelude.{Option}
 use Rattle.positions.specs.declared.Position.{Position}
 use Rattle.positions.specs.Ring.{Ring, no_more, user_node, a_junction, users_only}
 use Rattle.positions.specs.Reading.{Reading, wrong, behind_user, behind_junction, onward, positions, reading}
@@ -33,7 +34,7 @@ module _ (values : List ℕ) where
 
   -- one position more, with no level left
   right_level : (count place : ℕ) → ((next : ℕ) → Right 0 count next (reading 0 values count next))
-      → {position : Position} → Stands values place false position
+      → {position : Option Position} → Stands values place false position
       → Right 0 (suc count) place (onward (list_at values 0) (λ next. reading 0 values count next) place position)
   unfolding onward behind_user wrong
   right_level count place rest (a_node false there none) e = reads_user there none (rest (place + 1) e)
@@ -42,7 +43,7 @@ module _ (values : List ℕ) where
   -- and with levels left
   right_deeper : (depth count place : ℕ) → ((many next : ℕ) → Right depth many next (reading depth values many next))
       → ((next : ℕ) → Right (suc depth) count next (reading (suc depth) values count next))
-      → {position : Position} → Stands values place true position
+      → {position : Option Position} → Stands values place true position
       → Right (suc depth) (suc count) place (onward (list_at values (suc depth)) (λ next. reading (suc depth) values count next) place position)
   unfolding onward behind_user behind_junction wrong
   right_deeper depth count place list rest (a_node true there none) e = reads_user there none (rest (place + 1) e)

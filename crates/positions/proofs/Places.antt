@@ -9,18 +9,19 @@ use lib.ListN.{length, get_or}
 use borrow.Author.Tests.{leb-true, eqb-true, eqb-false, ltb-true, lt-ltb, le-leb, eq-eqb, ne_eqb}
 use Rattle.lists.proofs.Laws.{and_left, and_right}
 use Rattle.lists.proofs.Tests.{by_test}
+use Rattle.std.specs.Prelude.{Option, Some, None}
 use Rattle.positions.specs.declared.Position.{Position}
-use Rattle.positions.specs.declared.Position.TheVariants.{Node, Users, Listed, Wrong}
+use Rattle.positions.specs.declared.Position.TheVariants.{Node, Users, Listed}
 use Rattle.positions.specs.Ring.{no_more}
 use Rattle.positions.specs.Reading.{Reading, wrong, counted, joined, position_at, onward, positions, reading}
 
 module _ (values : List ℕ) (place : ℕ) where
-  pub data Stands : Bool → Position → Type 0 where
-    a_node : (deeper : Bool) → place < length values → get_or values place 0 ≡ 0 → Stands deeper Node
-    some_users : {value : ℕ} → place < length values → get_or values place 0 ≡ value → (value ≡ 0 → ⊥) → value ≤ 4 → Stands true (Users value)
+  pub data Stands : Bool → Option Position → Type 0 where
+    a_node : (deeper : Bool) → place < length values → get_or values place 0 ≡ 0 → Stands deeper (Some Node)
+    some_users : {value : ℕ} → place < length values → get_or values place 0 ≡ value → (value ≡ 0 → ⊥) → value ≤ 4 → Stands true (Some (Users value))
     a_list : {count : ℕ} → place + 1 < length values → get_or values place 0 ≡ 5 → get_or values (place + 1) 0 ≡ count → 1 ≤ count → count ≤ 4
-        → Stands true (Listed count)
-    nothing : (deeper : Bool) → Stands deeper Wrong
+        → Stands true (Some (Listed count))
+    nothing : (deeper : Bool) → Stands deeper None
 
   a_count : place + 1 < length values → get_or values place 0 ≡ 5 → Stands true (counted (get_or values (place + 1) 0))
   unfolding counted
@@ -52,17 +53,17 @@ module _ (values : List ℕ) (place : ℕ) where
       (λ behind. nothing deeper)
 
   -- and back: what the bytes must have for it is enough
-  pub node_at : (deeper : Bool) → place < length values → get_or values place 0 ≡ 0 → position_at deeper values place ≡ Node
+  pub node_at : (deeper : Bool) → place < length values → get_or values place 0 ≡ 0 → position_at deeper values place ≡ Some Node
   unfolding position_at
   node_at deeper there none = simp (lt-ltb _ _ there, eq-eqb _ _ none)
 
   pub users_at : (value : ℕ) → place < length values → get_or values place 0 ≡ value → (value ≡ 0 → ⊥) → value ≤ 4
-      → position_at true values place ≡ Users value
+      → position_at true values place ≡ Some (Users value)
   unfolding position_at joined
   users_at value there same some small = simp (lt-ltb _ _ there, same, ne_eqb _ _ some, le-leb _ _ small)
 
   pub list_at_lem : (count : ℕ) → place + 1 < length values → get_or values place 0 ≡ 5 → get_or values (place + 1) 0 ≡ count → 1 ≤ count → count ≤ 4
-      → position_at true values place ≡ Listed count
+      → position_at true values place ≡ Some (Listed count)
   unfolding position_at joined counted
   list_at_lem count there five same least most =
       let here : place < length values = omega (arith, there) in

@@ -14,70 +14,55 @@ pub use surveying::survey_of;
 // The places kept for the bytes of positions: a plan in range has no more.
 pub const VALUES: usize = 352;
 
-// What stands at a place: a user node, a junction with so many user nodes, a junction with a list of so many positions, or nothing
-// that a plan in range has there.
-#[derive(Clone, Copy)]
+// The levels of junctions that a plan in range can have.
+pub const LEVELS: u8 = 3;
+
+// What stands at a place: a user node, a junction with so many user nodes, or a junction with a list of so many positions.
+#[derive(Clone, Copy, Debug, PartialEq, Eq)]
 pub enum Position {
     Node,
     Users(u8),
     Listed(u8),
-    Wrong,
 }
 
-// Whether positions are in range, their user nodes and their junctions; 0 of each where they are not.
-#[derive(Clone, Copy)]
+// The user nodes and the junctions of positions in range.
+#[derive(Clone, Copy, Debug, PartialEq, Eq)]
 pub struct Survey {
-    pub right: bool,
     pub nodes: u16,
     pub junctions: u16,
 }
 
-// A list of so many positions.
-fn counted(count: u8) -> Position
+// A list of so many positions; none that a plan in range has.
+#[tactic(auto, unfolding(crate::specs::Reading::counted))]
+fn counted(count: u8) -> Option<Position>
     ensures { result ≡ counted count }
 {
-    if 1 <= count {
-        if count <= 4 {
-            return Position::Listed(count);
-        }
-        return Position::Wrong;
+    match count {
+        1..=4 => Some(Position::Listed(count)),
+        _ => None,
     }
-    Position::Wrong
 }
 
 // A junction, by the value at its place.
-fn joined(deeper: bool, values: &[u8], place: usize, value: u8) -> Position
+#[tactic(auto, unfolding(crate::specs::Reading::joined))]
+fn joined(deeper: bool, values: &[u8], place: usize, value: u8) -> Option<Position>
     ensures { result ≡ joined deeper values.now place value }
 {
-    if deeper {
-        if value <= 4 {
-            return Position::Users(value);
-        }
-        if value == 5 {
-            // a place behind the last one, without a sum that might pass the largest number
-            if place < values.len() {
-                if place + 1 < values.len() {
-                    return counted(values[place + 1]);
-                }
-                return Position::Wrong;
-            }
-            return Position::Wrong;
-        }
-        return Position::Wrong;
+    match value {
+        _ if !deeper => None,
+        0..=4 => Some(Position::Users(value)),
+        5 => counted(*values.get(place.checked_add(1)?)?),
+        _ => None,
     }
-    Position::Wrong
 }
 
-// What stands at a place; `deeper`: a junction may stand there. Nothing is read past the end.
-pub fn position_at(deeper: bool, values: &[u8], place: usize) -> Position
+// What stands at a place, or nothing that a plan in range has there; `deeper`: a junction may stand there. Nothing is read past the end.
+#[tactic(auto, unfolding(crate::specs::Reading::position_at))]
+pub fn position_at(deeper: bool, values: &[u8], place: usize) -> Option<Position>
     ensures { result ≡ position_at deeper values.now place }
 {
-    if place < values.len() {
-        let value = values[place];
-        if value == 0 {
-            return Position::Node;
-        }
-        return joined(deeper, values, place, value);
+    match *values.get(place)? {
+        0 => Some(Position::Node),
+        value => joined(deeper, values, place, value),
     }
-    Position::Wrong
 }

@@ -1,112 +1,72 @@
 // Positions counted: one list of them in a loop, a list within it by a call of its own, with one level less.
 ghost use Rattle.std.specs.Prelude.{◌≡◌, ◌*◌, ◌≤◌, length};
 ghost use Rattle.positions.specs.Reading.{reading, main_ring, survey_of};
-ghost use Rattle.positions.specs.Extent.{out_of_range, extent_of};
+ghost use Rattle.positions.specs.Extent.{extent_of};
 
-use crate::{Position, Survey, VALUES};
+use crate::{LEVELS, Position, Survey, VALUES, position_at};
 
-// The levels of junctions that a plan in range can have.
-const LEVELS: u8 = 3;
-
-// How far a survey has come: whether all is in range so far, the place reached, the user nodes and junctions before it.
+// How far a survey has come: the place reached, the user nodes and junctions before it.
 #[derive(Clone, Copy)]
 struct Extent {
-    right: bool,
     place: usize,
     nodes: u16,
     junctions: u16,
 }
 
-// Positions that are not in range.
-fn out_of_range() -> Extent
-    ensures { result ≡ out_of_range }
-{
-    Extent {
-        right: false,
-        place: 0,
-        nodes: 0,
-        junctions: 0,
-    }
-}
-
 // So many positions from a place on, with so many levels of junctions, behind a start with so many user nodes and junctions.
-fn survey_from(values: &[u8], depth: u8, count: u8, start: Extent) -> Extent
+#[tactic(auto, using(crate::proofs::Counting::counted_list_wrong, crate::proofs::Counting::counted_wrong, crate::proofs::Counting::counted_all, crate::proofs::Extents::list_deeper))]
+fn survey_from(values: &[u8], depth: u8, count: u8, start: Extent) -> Option<Extent>
     requires values_len_bound { length values.now ≤ 352 }
     requires place_in_bounds { start.place ≤ length values.now }
     requires nodes_bound { start.nodes ≤ 4 * start.place }
     requires junctions_le_place { start.junctions ≤ start.place }
     ensures { result ≡ extent_of (reading depth values.now count start.place) start.nodes start.junctions }
 {
-    let mut place = start.place;
-    let mut nodes = start.nodes;
-    let mut junctions = start.junctions;
-    let mut left = count;
-    while 0 < left {
-        let position = crate::position_at(0 < depth, values, place);
-        match position {
-            Position::Node => {
-                place += 1;
-                nodes += 1;
-                left -= 1;
-            }
-            Position::Users(size) => {
-                place += 1;
-                nodes += size as u16;
-                junctions += 1;
-                left -= 1;
-            }
+    let mut extent = start;
+    for _ in 0..count {
+        let Extent {
+            place,
+            nodes,
+            junctions,
+        } = extent;
+        let position = position_at(0 < depth, values, place)?;
+        extent = match position {
+            Position::Node => Extent {
+                place: place + 1,
+                nodes: nodes + 1,
+                junctions,
+            },
+            Position::Users(size) => Extent {
+                place: place + 1,
+                nodes: nodes + u16::from(size),
+                junctions: junctions + 1,
+            },
             Position::Listed(size) => {
-                let within = survey_from(
-                    values,
-                    depth - 1,
-                    size,
-                    Extent {
-                        right: true,
-                        place: place + 2,
-                        nodes: nodes,
-                        junctions: junctions + 1,
-                    },
-                );
-                if within.right {
-                    place = within.place;
-                    nodes = within.nodes;
-                    junctions = within.junctions;
-                    left -= 1;
-                } else {
-                    return out_of_range();
-                }
+                let behind = Extent {
+                    place: place + 2,
+                    nodes,
+                    junctions: junctions + 1,
+                };
+                survey_from(values, depth - 1, size, behind)?
             }
-            Position::Wrong => {
-                return out_of_range();
-            }
-        }
+        };
     }
-    Extent {
-        right: true,
-        place: place,
-        nodes: nodes,
-        junctions: junctions,
-    }
+    Some(extent)
 }
 
-// The positions of the main ring: whether they are in range, and what they have.
-pub fn survey_of(values: [u8; VALUES], count: u8) -> Survey
+// The positions of the main ring: what they have, if they are in range.
+#[tactic(auto, using(crate::proofs::Extents::survey_some, crate::proofs::Extents::survey_none), unfolding(crate::specs::Reading::main_ring))]
+pub fn survey_of(values: [u8; VALUES], count: u8) -> Option<Survey>
     ensures { result ≡ survey_of (main_ring values count) }
 {
-    let all = survey_from(
-        &values,
-        LEVELS,
-        count,
-        Extent {
-            right: true,
-            place: 0,
-            nodes: 0,
-            junctions: 0,
-        },
-    );
-    Survey {
-        right: all.right,
+    let start = Extent {
+        place: 0,
+        nodes: 0,
+        junctions: 0,
+    };
+    let all = survey_from(&values, LEVELS, count, start)?;
+    Some(Survey {
         nodes: all.nodes,
         junctions: all.junctions,
-    }
+    })
 }

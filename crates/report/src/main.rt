@@ -2,7 +2,7 @@
 // output. What goes wrong is told on standard error, and the report's last line, which begins with GOOD, is then missing or not to be trusted.
 #![tactic(auto)]
 
-use reporting::Reported;
+use reporting::ReportError;
 use std::io::Error;
 use std::process::ExitCode;
 
@@ -14,8 +14,8 @@ fn fail(rt: &impl Eprint, what: &str, error: Error) -> ExitCode {
 
 fn main(rt: HostRuntime) -> ExitCode {
     match reporting::report(&mut rt.stdin(), &mut rt.stdout()) {
-        Reported::Whole => ExitCode::SUCCESS,
-        Reported::NotRead(error) => fail(&rt, "standard input", error),
-        Reported::NotWritten(error) => fail(&rt, "standard output", error),
+        Ok(()) => ExitCode::SUCCESS,
+        Err(ReportError::NotRead(error)) => fail(&rt, "standard input", error),
+        Err(ReportError::NotWritten(error)) => fail(&rt, "standard output", error),
     }
 }

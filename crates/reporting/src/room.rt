@@ -1,13 +1,6 @@
-// Room for the schedules that are not good: 16,384 rows, and 1,048,576 bytes for their names. The promises give only the lengths, which lending an array as
-// a slice needs.
+// Room for the names of the schedules that are not good: 1,048,576 bytes. The promise gives only the length, which lending an array as a slice needs: a list
+// as long as this is not computed.
 ghost use Rattle.std.specs.Prelude.{◌≡◌, length};
-
-// Seven numbers a row.
-pub(crate) fn for_rows() -> [u64; 114688]
-    ensures { 114688 ≡ length result }
-{
-    [0; 114688]
-}
 
 // The names, one behind the other.
 pub(crate) fn for_names() -> [u8; 1048576]

@@ -1,48 +1,37 @@
 // The words of the report: what each verdict and each number mean, and what to do. README.md has the same tables.
 use morning::Entry;
 use std::io::{Result, Write};
+use verdict::{Noted, Verdict};
+
+// Writes the heading of a part of the report, with what to do about the schedules in it.
+fn write_heading<W: Write>(out: &mut W, heading: &str, count: u64, what_to_do: &str) -> Result<()> {
+    if count == 0 {
+        return writeln!(out, "\n{heading}: 0");
+    }
+    writeln!(out, "\n{heading}: {count}. {what_to_do}")
+}
 
 // Writes the heading of the bad schedules.
 pub(crate) fn write_bad<W: Write>(out: &mut W, count: u64) -> Result<()> {
-    if count == 0 {
-        return writeln!(out, "\nBAD: 0");
-    }
-    writeln!(
+    write_heading(
         out,
-        "\nBAD: {count}. These must not go on a ship. Warn the firmware desk first, then shore support."
+        "BAD",
+        count,
+        "These must not go on a ship. Warn the firmware desk first, then shore support.",
     )
 }
 
 // Writes the heading of those to be looked at.
 pub(crate) fn write_looked_at<W: Write>(out: &mut W, count: u64) -> Result<()> {
-    if count == 0 {
-        return writeln!(out, "\nTO BE LOOKED AT: 0");
-    }
-    writeln!(
+    write_heading(
         out,
-        "\nTO BE LOOKED AT: {count}. Have the owners of these jobs look."
+        "TO BE LOOKED AT",
+        count,
+        "Have the owners of these jobs look.",
     )
 }
 
-// A verdict by its number.
-fn verdict_words(verdict: u64) -> &'static str {
-    match verdict {
-        0 => "incomplete",
-        1 => "refused",
-        2 => "refused actions",
-        3 => "cut",
-        4 => "locks lost",
-        _ => "takes failed",
-    }
-}
-
-// Writes a verdict by its number, before the schedule's name.
-pub(crate) fn write_verdict<W: Write>(out: &mut W, verdict: u64) -> Result<()> {
-    let words = verdict_words(verdict);
-    write!(out, "\n  {words}: ")
-}
-
-// What a file's refusal means and what to do.
+// What a file's refusal means and what to do, by its number: the line of a text may have any.
 fn refusal_words(number: u64) -> &'static str {
     match number {
         1 => {
@@ -63,7 +52,7 @@ fn refusal_words(number: u64) -> &'static str {
     }
 }
 
-// What an action's refusal means and what to do.
+// What an action's refusal means and what to do, by its number.
 fn action_words(number: u64) -> &'static str {
     match number {
         7 => "a node that the plan does not have. Correct the node, or the plan.",
@@ -83,14 +72,15 @@ fn action_words(number: u64) -> &'static str {
 }
 
 // Writes how many lines there are, what they say, and at which steps the first one is.
-fn write_first<W: Write>(out: &mut W, count: u64, what: &str, steps: u64) -> Result<()> {
+fn write_first<W: Write>(out: &mut W, noted: Noted, what: &str) -> Result<()> {
+    let Noted { count, steps, .. } = noted;
     write!(out, "\n    {count} {what}, the first after {steps} steps: ")
 }
 
 // Writes what a refused file's verdict rests on. The place of a bad item is told of 6 only.
-fn rest_of_refused<W: Write>(out: &mut W, entry: Entry) -> Result<()> {
-    let number = entry.first;
-    let place = entry.second;
+fn rest_of_refused<W: Write>(out: &mut W, noted: Noted) -> Result<()> {
+    let number = noted.first;
+    let place = noted.second;
     let words = refusal_words(number);
     write!(out, "\n    number {number}")?;
     if number == 6 {
@@ -100,56 +90,51 @@ fn rest_of_refused<W: Write>(out: &mut W, entry: Entry) -> Result<()> {
 }
 
 // Writes what the verdict of refused actions rests on.
-fn rest_of_actions<W: Write>(out: &mut W, entry: Entry) -> Result<()> {
-    let number = entry.first;
-    let item = entry.second;
+fn rest_of_actions<W: Write>(out: &mut W, noted: Noted) -> Result<()> {
+    let number = noted.first;
+    let item = noted.second;
     let words = action_words(number);
-    write_first(out, entry.count, "refused", entry.steps)?;
+    write_first(out, noted, "refused")?;
     writeln!(out, "item {item}, number {number}: {words}")
 }
 
-// Writes what the verdict of a cut run rests on.
-fn rest_of_cut<W: Write>(out: &mut W, entry: Entry) -> Result<()> {
-    let steps = entry.steps;
-    writeln!(
-        out,
-        "\n    at {steps} steps. What comes behind was not run and is not checked: have the planner shorten the schedule."
-    )
+// Writes what a verdict by lines of nodes and locks rests on, and what to do.
+fn rest_of_locks<W: Write>(out: &mut W, noted: Noted, what: &str, what_to_do: &str) -> Result<()> {
+    let node = noted.first;
+    let lock = noted.second;
+    write_first(out, noted, what)?;
+    writeln!(out, "node {node}, lock {lock}. {what_to_do}")
 }
 
-// Writes what the verdict of lost locks rests on.
-fn rest_of_lost<W: Write>(out: &mut W, entry: Entry) -> Result<()> {
-    let node = entry.first;
-    let lock = entry.second;
-    write_first(out, entry.count, "lost", entry.steps)?;
-    writeln!(
-        out,
-        "node {node}, lock {lock}. The loser's job may have been at work on the tables: have both owners look."
-    )
-}
-
-// Writes what the verdict of failed takes rests on.
-fn rest_of_failed<W: Write>(out: &mut W, entry: Entry) -> Result<()> {
-    let node = entry.first;
-    let lock = entry.second;
-    write_first(out, entry.count, "failed", entry.steps)?;
-    writeln!(
-        out,
-        "node {node}, lock {lock}. A job would run without its lock if it does not ask again: have its owner look."
-    )
-}
-
-// Writes what a verdict rests on and what to do, behind the schedule's name.
+// Writes what a verdict rests on and what to do, behind the schedule's name. A good schedule is not listed.
 pub(crate) fn write_rest<W: Write>(out: &mut W, entry: Entry) -> Result<()> {
+    let noted = entry.noted;
     match entry.verdict {
-        0 => writeln!(
+        Verdict::Incomplete => writeln!(
             out,
             "\n    there is no whole run. Run it again; do not use its lines."
         ),
-        1 => rest_of_refused(out, entry),
-        2 => rest_of_actions(out, entry),
-        3 => rest_of_cut(out, entry),
-        4 => rest_of_lost(out, entry),
-        _ => rest_of_failed(out, entry),
+        Verdict::Refused => rest_of_refused(out, noted),
+        Verdict::RefusedActions => rest_of_actions(out, noted),
+        Verdict::Cut => {
+            let steps = noted.steps;
+            writeln!(
+                out,
+                "\n    at {steps} steps. What comes behind was not run and is not checked: have the planner shorten the schedule."
+            )
+        }
+        Verdict::LocksLost => rest_of_locks(
+            out,
+            noted,
+            "lost",
+            "The loser's job may have been at work on the tables: have both owners look.",
+        ),
+        Verdict::TakesFailed => rest_of_locks(
+            out,
+            noted,
+            "failed",
+            "A job would run without its lock if it does not ask again: have its owner look.",
+        ),
+        Verdict::Good => writeln!(out),
     }
 }

@@ -6,18 +6,16 @@ use mathlib.Core.List.{List}
 use native.Mathlib.Nat.{zero-add}
 use native.Mathlib.Numerals.{add-one}
 use native.Mathlib.Omega.{arith}
-use lib.Dec.{eqb, ltb}
+use lib.Dec.{ltb}
+use Rattle.std.proofs.Common.{Option}
 use lib.ListN.{get_or, replicate}
-use borrow.Author.Tests.{lt-ltb, eq-eqb, ne_eqb}
+use borrow.Author.Tests.{lt-ltb}
 use Rattle.lists.specs.Loops.{every}
 use Rattle.lists.proofs.Laws.{every_each}
 use Rattle.lists.proofs.Places.{place_default}
 use Rattle.plan.specs.Plan.{node_places, node_count}
 use Rattle.turns.specs.declared.Event.{Event}
-use Rattle.turns.specs.declared.Event.TheVariants.{Nothing, Granted, Failed, Lost, Back, Sent}
-use Rattle.turns.specs.Turn.{event_letter}
 use Rattle.ring.specs.declared.State.{State}
-use Rattle.ring.specs.declared.Happening.{Happening}
 use Rattle.ring.specs.declared.Stepped.{Stepped}
 use Rattle.ring.specs.declared.Advanced.{Advanced}
 use Rattle.ring.specs.Sound.{sound}
@@ -49,7 +47,7 @@ going_on zero now = now
 going_on (suc left) now = plus now.done (advancing (suc left) now.state)
 
 -- at first all steps are left
-all_left : (limit : ℕ) (state : State) (events : List Happening) → advancing 0 state ≡ record { state = state; events = events; done = 0 }
+all_left : (limit : ℕ) (state : State) (events : List (Option Event)) → advancing 0 state ≡ record { state = state; events = events; done = 0 }
     → going_on limit (record { state = state; events = events; done = 0 }) ≡ advancing limit state
 all_left zero state events none = sym none
 all_left (suc n) state events none =
@@ -76,7 +74,7 @@ one_fewer (suc n) now l = go (silent now.state) n
         rw (e, lt-ltb 0 (suc m) (omega arith)) (plus_more now.done _)
 
 -- a step that was silent or not, the state and the events after it, and then up to n steps more
-abbrev further : Bool → ℕ → State → List Happening → Advanced
+abbrev further : Bool → ℕ → State → List (Option Event) → Advanced
 further still n next events = cond (still && ltb 0 n) (one_more_note (advancing n next)) (record { state = next; events = events; done = 1 })
 
 advancing-more : (n : ℕ) (state : State) → advancing (suc n) state ≡ further (silent state) n (stepping state).state (stepping state).events
@@ -84,7 +82,7 @@ unfolding advancing
 advancing-more n state = refl
 
 -- where a step is silent and leaves the state as it is, so do so many of them
-module _ (state : State) (events : List Happening) (none : advancing 0 state ≡ record { state = state; events = events; done = 0 })
+module _ (state : State) (events : List (Option Event)) (none : advancing 0 state ≡ record { state = state; events = events; done = 0 })
     (still : silent state ≡ true) (same : (stepping state).state ≡ state) (told : (stepping state).events ≡ events) where
   -- a step and those after it
   same_more : (n : ℕ) → advancing (suc n) state ≡ further true n state events
@@ -113,7 +111,7 @@ step_refused state e = rw e
 refused-silent : (state : State) → sound state ≡ false → silent state ≡ true
 unfolding silent refused no_event quiet
 refused-silent state e =
-    every_each _ (node_count state.plan) (λ i l. rw (step_refused state e) (place_default (λ h. no_event h.event ≡ true) quiet node_places i refl))
+    every_each _ (node_count state.plan) (λ i l. rw (step_refused state e) (place_default (λ h. no_event h ≡ true) quiet node_places i refl))
 
 -- so many of them leave the state as it is
 pub all_refused : (state : State) (limit : ℕ) → sound state ≡ false
@@ -147,12 +145,12 @@ at_most_left false left = omega arith
 
 -- after one step more, by whether it was silent
 pub going_on_lem : (start : State) (limit count left left' : ℕ) (now next : Advanced) (b : Bool) → Going start limit count now left → 0 < left
-    → next ≡ one_step now → b ≡ every (λ place. no_event (get_or next.events place quiet).event) count → left' ≡ cond b (left - 1) 0
+    → next ≡ one_step now → b ≡ every (λ place. no_event (get_or next.events place quiet)) count → left' ≡ cond b (left - 1) 0
     → Going start limit count next left'
 unfolding silent
 going_on_lem start limit count left left' now next b g l e s t =
     let same : b ≡ silent now.state =
-    s ∙ ap₂ (λ (events : List Happening) (n : ℕ). every (λ place. no_event (get_or events place quiet).event) n) (ap (λ (a : Advanced). a.events) e) (sym g.nodes) in
+    s ∙ ap₂ (λ (events : List (Option Event)) (n : ℕ). every (λ place. no_event (get_or events place quiet)) n) (ap (λ (a : Advanced). a.events) e) (sym g.nodes) in
     let more : next.done ≡ now.done + 1 = ap (λ (a : Advanced). a.done) e in
     record {
       pass = ap (λ (a : Advanced). sound a.state) e ∙ step_keeps_sound now.state g.pass;
@@ -165,20 +163,3 @@ going_on_lem start limit count left left' now next b g l e s t =
 -- at last
 pub going_done : (start : State) (limit count left : ℕ) (now : Advanced) → Going start limit count now left → left ≤ 0 → now ≡ advancing limit start
 going_done start limit count left now g l = let none : 0 ≡ left = omega arith in ap (λ (n : ℕ). going_on n now) none ∙ g.leads
-
--- nothing happened where an event has no letter
-no_letter : (event : Event) → no_event event ≡ eqb (event_letter event) 0
-unfolding no_event event_letter
-no_letter Nothing = refl
-no_letter (Granted lock) = refl
-no_letter (Failed lock) = refl
-no_letter (Lost lock) = refl
-no_letter (Back lock) = refl
-no_letter (Sent lock) = refl
-
--- which is seen by the letter
-pub silent_here : (event : Event) (letter : ℕ) → letter ≡ event_letter event → letter ≡ 0 → no_event event ≡ true
-silent_here event letter e z = no_letter event ∙ eq-eqb _ _ (sym e ∙ z)
-
-pub told_here : (event : Event) (letter : ℕ) → letter ≡ event_letter event → (letter ≡ 0 → ⊥) → no_event event ≡ false
-told_here event letter e z = no_letter event ∙ ne_eqb _ _ (λ n. z (e ∙ n))

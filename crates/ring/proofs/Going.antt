@@ -7,15 +7,18 @@ use native.Mathlib.Numerals.{add-one}
 use native.Mathlib.Omega.{arith}
 use lib.ListN.{length, get_or, set, drop, drop_of_length-le}
 use lib.Seq.{drop-cons}
+use Rattle.std.proofs.Math.Bool.{or_comm}
+use Rattle.std.proofs.Common.{Option, Some, None, Ok}
 use Rattle.lists.specs.Refusal.{refused_if}
 use Rattle.cars.specs.declared.Car.{Car}
 use Rattle.plan.specs.declared.Plan.{Plan}
 use Rattle.route.specs.declared.Leg.{Leg}
-use Rattle.route.specs.declared.Leg.TheVariants.{Nowhere, At, Into, Out}
+use Rattle.route.specs.declared.Leg.TheVariants.{At, Into, Out}
 use Rattle.route.specs.Route.{leg_of}
 use Rattle.usernode.specs.declared.Node.{Node}
 use Rattle.usernode.specs.Node.{wants_train}
 use Rattle.usernode.specs.Astray.{astray}
+use Rattle.turns.specs.declared.Event.{Event}
 use Rattle.turns.specs.declared.Turn.{Turn}
 use Rattle.turns.specs.Turn.{turn}
 use Rattle.junction.specs.declared.Junction.{Junction}
@@ -23,17 +26,21 @@ use Rattle.junction.specs.Turn.{junction_turn}
 use Rattle.zeronode.specs.declared.ZeroNode.{ZeroNode}
 use Rattle.zeronode.specs.Turn.{zero_turn, overflows}
 use Rattle.ring.specs.declared.State.{State}
-use Rattle.ring.specs.declared.StepAnswer.TheVariants.{Done}
-use Rattle.ring.specs.declared.Happening.{Happening}
 use Rattle.ring.specs.declared.Entered.{Entered}
 use Rattle.ring.specs.State.{rest_node, rest_junction}
 use Rattle.ring.specs.Step.{step_told, step_answer_number}
 use Rattle.ring.specs.Trip.{Trip, unopened, at_node, into_junction, out_of_junction, on_leg, going, sets_out, trip, trip_number, trip_done, moving_along}
 
 -- a trip of its parts
-abbrev pub trip_of : ℕ → Car → Bool → Bool → List Node → List Happening → List Junction → List Entered → Trip
+abbrev pub trip_of : ℕ → Car → Bool → Bool → List Node → List (Option Event) → List Junction → List Entered → Trip
 trip_of passed last astray wants nodes events junctions opened =
     record { passed = passed; last = last; astray = astray; wants = wants; nodes = nodes; events = events; junctions = junctions; opened = opened }
+
+-- the trip after a leg, of the parts that the leg leaves
+pub trip_after : {passed passed₁ : ℕ} {last last₁ : Car} {astray astray₁ wants wants₁ : Bool} {next next₁ : State} {events events₁ : List (Option Event)} {opened opened₁ : List Entered}
+    → passed ≡ passed₁ → last ≡ last₁ → astray ≡ astray₁ → wants ≡ wants₁ → next ≡ next₁ → events ≡ events₁ → opened ≡ opened₁
+    → trip_of passed last astray wants next.nodes events next.junctions opened ≡ trip_of passed₁ last₁ astray₁ wants₁ next₁.nodes events₁ next₁.junctions opened₁
+trip_after p l a w n e o = λ i. trip_of (p i) (l i) (a i) (w i) (n i).nodes (e i) (n i).junctions (o i)
 
 -- where the leg at this place of the route is reached: what is still to come gives, with the trip so far, the whole trip
 pub record Reached (state : State) (route : List ℕ) (i : ℕ) (t : Trip) : Type 0 where
@@ -45,7 +52,7 @@ unfolding trip
 reached_start state route = record { below = omega arith; so_far = refl }
 
 -- one leg more
-pub reached_next_lem : (state : State) (route : List ℕ) (i : ℕ) (before after : Trip) (leg : Leg) → Reached state route i before → i < length route
+pub reached_next_lem : (state : State) (route : List ℕ) (i : ℕ) (before after : Trip) (leg : Option Leg) → Reached state route i before → i < length route
     → leg ≡ leg_of (get_or route i 0) → after ≡ on_leg state before leg → Reached state route (i + 1) after
 unfolding going
 reached_next_lem state route i before after leg r l e a =
@@ -61,37 +68,34 @@ reached_next_lem state route i before after leg r l e a =
     }
 
 -- past a number that names no sender
-pub past_nowhere : (state : State) (t : Trip) → t ≡ on_leg state t Nowhere
+pub past_nowhere : (state : State) (t : Trip) → t ≡ on_leg state t None
 unfolding on_leg
 past_nowhere state t = refl
 
 -- a user node's turn, put together from what the calls gave
-pub past_node_lem : (state : State) (t : Trip) (place : ℕ) (turned : Turn) (stray astrays wish wishes : Bool)
+pub past_node_lem : (state : State) (t : Trip) (place : ℕ) (turned : Turn) (stray wish : Bool)
     → turned ≡ turn state.plan.rules (place + 1) t.last (get_or state.nodes place rest_node)
     → stray ≡ astray (get_or state.nodes place rest_node) (place + 1) t.last
-    → astrays ≡ (t.astray || stray)
     → wish ≡ wants_train (get_or state.nodes place rest_node)
-    → wishes ≡ (t.wants || wish)
-    → trip_of (place + 1) (get_or state.nodes place rest_node).car astrays wishes (set t.nodes place turned.node) (set t.events place (record { event = turned.event })) t.junctions t.opened
-    ≡ on_leg state t (At place)
+    → trip_of (place + 1) (get_or state.nodes place rest_node).car (t.astray || stray) (t.wants || wish) (set t.nodes place turned.node) (set t.events place turned.event) t.junctions t.opened
+    ≡ on_leg state t (Some (At place))
 unfolding on_leg at_node
-past_node_lem state t place turned stray astrays wish wishes a b c d e = simp (e, d, c, b, a)
+past_node_lem state t place turned stray wish a b c = simp (c, b, a)
 
 -- into a junction
 pub into_junction_lem : (state : State) (t : Trip) (place : ℕ)
     → trip_of t.passed (get_or state.junctions place rest_junction).subring t.astray false t.nodes t.events t.junctions (set t.opened place (record { arrival = t.last; low = t.passed; wants = t.wants }))
-    ≡ on_leg state t (Into place)
+    ≡ on_leg state t (Some (Into place))
 unfolding on_leg into_junction
 into_junction_lem state t place = refl
 
 -- out of it
-pub out_of_junction_lem : (state : State) (t : Trip) (inner : Bool) (place : ℕ) (junction : Junction) (wishes : Bool)
+pub out_of_junction_lem : (state : State) (t : Trip) (inner : Bool) (place : ℕ) (junction : Junction)
     → junction ≡ junction_turn inner (get_or t.opened place unopened).low t.passed t.wants (get_or t.opened place unopened).arrival t.last (get_or state.junctions place rest_junction)
-    → wishes ≡ ((get_or t.opened place unopened).wants || t.wants)
-    → trip_of t.passed (get_or state.junctions place rest_junction).main t.astray wishes t.nodes t.events (set t.junctions place junction) t.opened
-    ≡ on_leg state t (Out inner place)
+    → trip_of t.passed (get_or state.junctions place rest_junction).main t.astray (t.wants || (get_or t.opened place unopened).wants) t.nodes t.events (set t.junctions place junction) t.opened
+    ≡ on_leg state t (Some (Out inner place))
 unfolding on_leg out_of_junction
-out_of_junction_lem state t inner place junction wishes j w = simp (j, w)
+out_of_junction_lem state t inner place junction j = simp (j, or_comm t.wants (get_or t.opened place unopened).wants)
 
 -- all legs gone
 pub arrived : (state : State) (route : List ℕ) (i : ℕ) (t : Trip) → Reached state route i t → length route ≤ i → t ≡ trip state route
@@ -108,6 +112,6 @@ pub moved : (state : State) (route : List ℕ) (after : Trip) (plan : Plan) (zer
     → overflows state.zeroth after.last ≡ false
     → after.astray ≡ false
     → zeroth ≡ zero_turn state.zeroth after.last
-    → step_told (record { answer = Done; state = record { plan = plan; zeroth = zeroth; nodes = after.nodes; junctions = after.junctions }; events = after.events }) ≡ moving_along route state
+    → step_told (record { answer = Ok tt; state = record { plan = plan; zeroth = zeroth; nodes = after.nodes; junctions = after.junctions }; events = after.events }) ≡ moving_along route state
 unfolding moving_along step_told trip_number refused_if trip_done step_answer_number
 moved state route after plan zeroth w p o a z = simp (z, ← w, p, o, a)

@@ -1,18 +1,19 @@
 -- Laws of the state: on which places an action may fall, what passing 13 says, and what the step and an action of a state that
 -- passes are.
 use Prim.Native.Nat.{ℕ, ◌≤◌, ◌<◌}
-use mathlib.Core.Path.{◌≡◌, refl, sym, ap, ◌∙◌}
+use mathlib.Core.Path.{◌≡◌, refl, ap}
 use mathlib.Core.Bool.{Bool, true, false, cond, not, ◌&&◌}
 use native.Mathlib.Omega.{arith}
 use lib.Dec.{eqb, leb, ltb}
 use lib.ListN.{get_or}
+use Rattle.std.proofs.Common.{Some, None}
 use borrow.Author.Tests.{leb-true, ltb-true}
 use Rattle.lists.specs.Loops.{every}
 use Rattle.lists.proofs.Laws.{and_left, and_right, every-at}
 use Rattle.lists.proofs.Tests.{and_both, by_test}
 use Rattle.cars.specs.Cars.{is_node}
-use Rattle.plan.specs.declared.Plan.{Plan}
 use Rattle.positions.specs.declared.Survey.{Survey}
+use Rattle.plan.specs.declared.Plan.{Plan}
 use Rattle.plan.specs.Plan.{in_range, node_count, junction_count, plan_survey}
 use Rattle.plan.proofs.Laws.{nodes_most}
 use Rattle.acts.specs.declared.Action.{Action}
@@ -88,21 +89,20 @@ pub passes : (state : State) → Passed state → sound state ≡ true
 unfolding sound
 passes state p = and_both (and_both (and_both p.plan p.zeroth) p.nodes) p.junctions
 
--- 13 by the survey of the plan: where that is right, the parts
-pub sound_right : (state : State) (survey : Survey) (parts : Bool) → survey ≡ plan_survey state.plan → survey.right ≡ true
-    → parts ≡ (zero_passes state survey.nodes && every (node_passes state survey.nodes) survey.nodes && every (junction_passes state survey.nodes) survey.junctions)
-    → parts ≡ sound state
-unfolding sound plan_survey
-sound_right state survey parts e r p =
-    let plan : in_range state.plan ≡ true = sym (ap (λ (s : Survey). s.right) e) ∙ r in
-    p ∙ ap (λ (s : Survey). zero_passes state s.nodes && every (node_passes state s.nodes) s.nodes && every (junction_passes state s.nodes) s.junctions) e
-    ∙ rw plan refl
+-- what 13 asks of the parts, by the survey of the plan
+abbrev pub parts_pass : State → Survey → Bool
+parts_pass state survey =
+    zero_passes state survey.nodes && every (node_passes state survey.nodes) survey.nodes && every (junction_passes state survey.nodes) survey.junctions
 
-pub sound-wrong : (state : State) (survey : Survey) → survey ≡ plan_survey state.plan → survey.right ≡ false → false ≡ sound state
+-- where the plan is in range, 13 is that
+pub sound_surveyed : (state : State) (survey : Survey) → plan_survey state.plan ≡ Some survey → parts_pass state survey ≡ sound state
 unfolding sound plan_survey
-sound-wrong state survey e r =
-    let plan : in_range state.plan ≡ false = sym (ap (λ (s : Survey). s.right) e) ∙ r in
-    rw plan refl
+sound_surveyed state survey e = go (in_range state.plan) (record { nodes = node_count state.plan; junctions = junction_count state.plan }) e
+  where
+    go : (b : Bool) (there : Survey) → cond b (Some there) None ≡ Some survey
+        → parts_pass state survey ≡ (b && zero_passes state there.nodes && every (node_passes state there.nodes) there.nodes && every (junction_passes state there.nodes) there.junctions)
+    go true there e = let same : survey ≡ there = cc in ap (parts_pass state) same
+    go false there e = cc
 
 -- the plan is in range, and the queue has at most 65 cars
 pub sound_plan : (state : State) → sound state ≡ true → in_range state.plan ≡ true

@@ -237,27 +237,25 @@ module _ (state : State) (r : in_range state.plan ≡ true) where
       (refused (refused_if (overflows state.zeroth t.last) 14 (refused_if t.astray 15 0)) state)) trip-walk
 
   -- what is laid into a row of 352 numbers is that route
-  pub laid_there : (row row₁ : List ℕ) (laid : ℕ) → length row ≡ 352
-      → laid ≡ length (laid_in (length row) state.plan.values state.plan.positions)
-      → row₁ ≡ sets row 0 (laid_in (length row) state.plan.values state.plan.positions)
-      → take laid row₁ ≡ plan_route
+  abbrev laid : List ℕ
+  laid = laid_in 352 state.plan.values state.plan.positions
+
+  pub laid_there : (row : List ℕ) (n : ℕ) → n ≡ length laid → row ≡ sets (replicate 352 0) 0 laid → take n row ≡ plan_route
   unfolding ring_of positions_read
-  laid_there row row₁ laid l e f =
+  laid_there row n e f =
       let range = in_range_lem state.plan r in
       ap₂ (λ (n : ℕ) (x : List ℕ). take n x) e f
-      ∙ laid_taken row state.plan.values state.plan.positions
-      ∙ laid_route (length row) state.plan.values state.plan.positions range.right range.nodes_most (ring_junctions_most state.plan r) (omega (arith, l))
+      ∙ laid_taken (replicate 352 0) state.plan.values state.plan.positions
+      ∙ laid_route 352 state.plan.values state.plan.positions range.right range.nodes_most (ring_junctions_most state.plan r) (omega arith)
 
   -- and it is within the row
-  pub laid_within : (row row₁ : List ℕ) (laid : ℕ) → laid ≡ length (laid_in (length row) state.plan.values state.plan.positions)
-      → row₁ ≡ sets row 0 (laid_in (length row) state.plan.values state.plan.positions) → laid ≤ length row₁
-  laid_within row row₁ laid e f =
-      let long : length row₁ ≡ length row = ap length f ∙ length-sets row 0 (laid_in (length row) state.plan.values state.plan.positions) in
-      omega (arith, e, long, laid_in_room (length row) state.plan.values state.plan.positions)
+  pub laid_within : (row : List ℕ) (n : ℕ) → n ≡ length laid → row ≡ sets (replicate 352 0) 0 laid → n ≤ length row
+  laid_within row n e f =
+      let long : length row ≡ 352 = ap length f ∙ length-sets (replicate 352 0) 0 laid ∙ length-replicate {0} {A = ℕ} 352 0 in
+      omega (arith, e, long, laid_in_room 352 state.plan.values state.plan.positions)
 
-  pub laid_long : (row row₁ : List ℕ) (laid : ℕ) → laid ≡ length (laid_in (length row) state.plan.values state.plan.positions)
-      → row₁ ≡ sets row 0 (laid_in (length row) state.plan.values state.plan.positions) → laid ≡ length (take laid row₁)
-  laid_long row row₁ laid e f = sym (length-take-le laid row₁ (laid_within row row₁ laid e f))
+  pub laid_long : (row : List ℕ) (n : ℕ) → n ≡ length laid → row ≡ sets (replicate 352 0) 0 laid → n ≡ length (take n row)
+  laid_long row n e f = sym (length-take-le n row (laid_within row n e f))
 
 -- two plans that are the same have the same route
 pub same_route : (plan other : Plan) → plan ≡ other → route_of plan.values plan.positions ≡ route_of other.values other.positions

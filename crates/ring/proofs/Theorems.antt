@@ -42,11 +42,11 @@ step_keeps_sound state e =
     (by_test (λ (t : StepTold). Passes t.state) (eqb (step_number state) 0) (λ z. next_sound state e) (λ z. e))
 
 -- its events name locks of the plan; a place without one has lock 0
-pub step_events_name : (state : State) → sound state ≡ true → (place : ℕ) → event_lock (get_or (stepping state).events place quiet).event < state.plan.locks
+pub step_events_name : (state : State) → sound state ≡ true → (place : ℕ) → event_lock (get_or (stepping state).events place quiet) < state.plan.locks
 unfolding moving done refused
 step_events_name state e place =
     rw (step_of_sound state e)
-    (by_test (λ (t : StepTold). event_lock (get_or t.events place quiet).event < state.plan.locks) (eqb (step_number state) 0)
+    (by_test (λ (t : StepTold). event_lock (get_or t.events place quiet) < state.plan.locks) (eqb (step_number state) 0)
     (λ z. walk-events state e place) (λ z. no-events state e place))
 
 -- an action that is accepted changes one node, to one that 13 does not refuse

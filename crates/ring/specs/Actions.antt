@@ -1,10 +1,11 @@
 -- 01, "Actions between steps", and the numbers 7 to 13 in their order.
-use Rattle.std.specs.Prelude.{ℕ, ◌-◌, cond, not, eqb, ltb, set}
+use Rattle.std.specs.Prelude.{ℕ, ◌-◌, cond, not, eqb, ltb, set, Result, Ok, Err}
 use Rattle.lists.specs.Refusal.{refused_if}
 use Rattle.cars.specs.Cars.{is_node}
 use Rattle.plan.specs.Plan.{node_count}
 use Rattle.acts.specs.declared.Action.{Action}
-use Rattle.acts.specs.Actions.{action_answer_number, node_number, acted}
+use Rattle.acts.specs.declared.ActionRefusal.{ActionRefusal}
+use Rattle.acts.specs.Actions.{action_refusal_number, action_answer_number, node_number, acted}
 use Rattle.ring.specs.declared.State.{State}
 use Rattle.ring.specs.declared.Acted.{Acted}
 use Rattle.ring.specs.State.{Told, node_of}
@@ -39,3 +40,8 @@ unfoldable pub acting : Action → State → ℕ → ℕ → Told
 acting action state node lock =
     cond (sound state) (handed_back (action_number action state node lock) (acted_state action state node lock) state)
     (record { number = 13; state = state })
+
+-- what is told of the state in which the named node has acted, or of a refusal, beside which the state stays as it was
+unfoldable pub outcome_told : State → Result State ActionRefusal → Told
+outcome_told state (Ok next) = record { number = 0; state = next }
+outcome_told state (Err refusal) = record { number = action_refusal_number refusal; state = state }

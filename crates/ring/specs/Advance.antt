@@ -1,26 +1,21 @@
 -- Several steps, each of them 01's step, which says itself where it is refused.
-use Rattle.std.specs.Prelude.{ℕ, zero, suc, ◌+◌, Bool, true, false, cond, ◌&&◌, ltb, get_or, replicate}
+use Rattle.std.specs.Prelude.{ℕ, zero, suc, ◌+◌, Bool, true, false, cond, ◌&&◌, ltb, get_or, replicate, Option, Some, None}
 use Rattle.lists.specs.Loops.{every}
 use Rattle.plan.specs.Plan.{node_places, node_count}
 use Rattle.turns.specs.declared.Event.{Event}
-use Rattle.turns.specs.declared.Event.TheVariants.{Nothing, Granted, Failed, Lost, Back, Sent}
 use Rattle.ring.specs.declared.State.{State}
 use Rattle.ring.specs.declared.Advanced.{Advanced}
 use Rattle.ring.specs.Walk.{quiet}
 use Rattle.ring.specs.Step.{stepping}
 
 -- nothing happened
-unfoldable pub no_event : Event → Bool
-no_event Nothing = true
-no_event (Granted lock) = false
-no_event (Failed lock) = false
-no_event (Lost lock) = false
-no_event (Back lock) = false
-no_event (Sent lock) = false
+unfoldable pub no_event : Option Event → Bool
+no_event None = true
+no_event (Some event) = false
 
 -- no node of the plan has an event in a step of this state
 unfoldable pub silent : State → Bool
-silent state = every (λ place. no_event (get_or (stepping state).events place quiet).event) (node_count state.plan)
+silent state = every (λ place. no_event (get_or (stepping state).events place quiet)) (node_count state.plan)
 
 -- one step more was done, before these
 unfoldable pub one_more_note : Advanced → Advanced

@@ -1,5 +1,5 @@
 -- 01, "The plan and the things in it": the state at the start, and number 4 for a start that is asked of a plan out of range.
-use Rattle.std.specs.Prelude.{ℕ, ◌-◌, cond, false, get_or, replicate}
+use Rattle.std.specs.Prelude.{ℕ, ◌-◌, cond, false, get_or, replicate, Result, Ok, Err}
 use Rattle.cars.specs.declared.Car.TheVariants.{Idle}
 use Rattle.plan.specs.declared.Plan.{Plan}
 use Rattle.plan.specs.Plan.{value_places, node_places, junction_places, in_range, plan_number}
@@ -9,8 +9,7 @@ use Rattle.zeronode.specs.Rules.{zero_start}
 use Rattle.junction.specs.declared.Junction.{Junction}
 use Rattle.ring.specs.declared.State.{State}
 use Rattle.ring.specs.declared.Started.{Started}
-use Rattle.ring.specs.declared.PlanAnswer.{PlanAnswer}
-use Rattle.ring.specs.declared.PlanAnswer.TheVariants.{InRange, OutOfRange}
+use Rattle.ring.specs.declared.PlanOutOfRange.{PlanOutOfRange}
 
 -- "all other senders send idle; words, flags, queue and activities are empty, clear or idle, unused places too"
 unfoldable pub rest_node : Node
@@ -38,9 +37,9 @@ unfoldable pub start_state : Plan → State
 start_state plan = cond (in_range plan) (start_of plan) (start_of small_plan)
 
 -- the number of an answer; 0: accepted
-unfoldable pub plan_answer_number : PlanAnswer → ℕ
-plan_answer_number InRange = 0
-plan_answer_number OutOfRange = 4
+unfoldable pub plan_answer_number : Result Unit PlanOutOfRange → ℕ
+plan_answer_number (Ok nothing) = 0
+plan_answer_number (Err out_of_range) = 4
 
 -- what an answer tells: its number and the state beside it
 pub record Told : Type 0 where

@@ -1,28 +1,28 @@
 -- 01, "One step": the state after it, its events, and the numbers 13 to 15 in their order.
-use Rattle.std.specs.Prelude.{ℕ, cond, List, eqb, replicate}
+use Rattle.std.specs.Prelude.{ℕ, cond, List, eqb, replicate, Option, Result, Ok, Err}
 use Rattle.lists.specs.Refusal.{refused_if}
 use Rattle.plan.specs.Plan.{node_places}
+use Rattle.turns.specs.declared.Event.{Event}
 use Rattle.zeronode.specs.Turn.{zero_turn, overflows}
 use Rattle.ring.specs.declared.State.{State}
-use Rattle.ring.specs.declared.Happening.{Happening}
 use Rattle.ring.specs.declared.Stepped.{Stepped}
-use Rattle.ring.specs.declared.StepAnswer.{StepAnswer}
-use Rattle.ring.specs.declared.StepAnswer.TheVariants.{Done, BadState, QueueFull, Astray}
+use Rattle.ring.specs.declared.StepRefusal.{StepRefusal}
+use Rattle.ring.specs.declared.StepRefusal.TheVariants.{BadState, QueueFull, Astray}
 use Rattle.ring.specs.Sound.{sound}
 use Rattle.ring.specs.Walk.{quiet, walk}
 
 -- the number of an answer; 0: done
-unfoldable pub step_answer_number : StepAnswer → ℕ
-step_answer_number Done = 0
-step_answer_number BadState = 13
-step_answer_number QueueFull = 14
-step_answer_number Astray = 15
+unfoldable pub step_answer_number : Result Unit StepRefusal → ℕ
+step_answer_number (Ok nothing) = 0
+step_answer_number (Err BadState) = 13
+step_answer_number (Err QueueFull) = 14
+step_answer_number (Err Astray) = 15
 
 -- what an answer tells: its number, the state, and the event of each node
 pub record StepTold : Type 0 where
   pub number : ℕ
   pub state : State
-  pub events : List Happening
+  pub events : List (Option Event)
 
 unfoldable pub step_told : Stepped → StepTold
 step_told r = record { number = step_answer_number r.answer; state = r.state; events = r.events }

@@ -1,22 +1,22 @@
 -- The walk along a route: what the code of the step goes by, named by private contracts only. A route is a list of numbers, one for each sender
 -- in travelling order (crate route); that going along the plan's route is the walk of Walk.antt is a law (proofs/Routed).
-use Rattle.std.specs.Prelude.{ℕ, ◌+◌, Bool, false, cond, ◌||◌, List, [], ◌∷◌, eqb, get_or, set, replicate}
+use Rattle.std.specs.Prelude.{ℕ, ◌+◌, Bool, false, cond, ◌||◌, List, [], ◌∷◌, eqb, get_or, set, replicate, Option, Some, None}
 use Rattle.lists.specs.Refusal.{refused_if}
 use Rattle.cars.specs.declared.Car.{Car}
 use Rattle.cars.specs.declared.Car.TheVariants.{Idle}
 use Rattle.plan.specs.Plan.{node_places, junction_places}
 use Rattle.route.specs.declared.Leg.{Leg}
-use Rattle.route.specs.declared.Leg.TheVariants.{Nowhere, At, Into, Out}
+use Rattle.route.specs.declared.Leg.TheVariants.{At, Into, Out}
 use Rattle.route.specs.Route.{leg_of}
 use Rattle.usernode.specs.declared.Node.{Node}
 use Rattle.usernode.specs.Node.{wants_train}
 use Rattle.usernode.specs.Astray.{astray}
+use Rattle.turns.specs.declared.Event.{Event}
 use Rattle.turns.specs.Turn.{turn}
 use Rattle.junction.specs.declared.Junction.{Junction}
 use Rattle.junction.specs.Turn.{junction_turn}
 use Rattle.zeronode.specs.Turn.{zero_turn, overflows}
 use Rattle.ring.specs.declared.State.{State}
-use Rattle.ring.specs.declared.Happening.{Happening}
 use Rattle.ring.specs.declared.Entered.{Entered}
 use Rattle.ring.specs.State.{rest_node, rest_junction}
 use Rattle.ring.specs.Walk.{quiet}
@@ -30,7 +30,7 @@ pub record Trip : Type 0 where
   pub astray : Bool
   pub wants : Bool
   pub nodes : List Node
-  pub events : List Happening
+  pub events : List (Option Event)
   pub junctions : List Junction
   pub opened : List Entered
 
@@ -47,7 +47,7 @@ at_node state place trip =
       astray = trip.astray || astray (get_or state.nodes place rest_node) (place + 1) trip.last;
       wants = trip.wants || wants_train (get_or state.nodes place rest_node);
       nodes = set trip.nodes place (turn state.plan.rules (place + 1) trip.last (get_or state.nodes place rest_node)).node;
-      events = set trip.events place (record { event = (turn state.plan.rules (place + 1) trip.last (get_or state.nodes place rest_node)).event });
+      events = set trip.events place (turn state.plan.rules (place + 1) trip.last (get_or state.nodes place rest_node)).event;
       junctions = trip.junctions;
       opened = trip.opened;
     }
@@ -82,11 +82,11 @@ out_of_junction state inner place trip =
       opened = trip.opened;
     }
 
-unfoldable pub on_leg : State → Trip → Leg → Trip
-on_leg state trip Nowhere = trip
-on_leg state trip (At place) = at_node state place trip
-on_leg state trip (Into place) = into_junction state place trip
-on_leg state trip (Out inner place) = out_of_junction state inner place trip
+unfoldable pub on_leg : State → Trip → Option Leg → Trip
+on_leg state trip None = trip
+on_leg state trip (Some (At place)) = at_node state place trip
+on_leg state trip (Some (Into place)) = into_junction state place trip
+on_leg state trip (Some (Out inner place)) = out_of_junction state inner place trip
 
 -- along a route, whatever numbers it has
 unfoldable pub going : State → List ℕ → Trip → Trip

@@ -1,20 +1,19 @@
 -- 01, "One step": "All nodes act at once on the cars sent before the step, each taking its predecessor's." The walk goes through
 -- the senders in travelling order (docs/NESTED.md, "Who takes whose car"), by recursion on the plan's ring.
-use Rattle.std.specs.Prelude.{ℕ, ◌+◌, Bool, true, false, ◌||◌, List, get_or, set, replicate}
+use Rattle.std.specs.Prelude.{ℕ, ◌+◌, Bool, true, false, ◌||◌, List, get_or, set, replicate, Option, None}
 use Rattle.lists.specs.Loops.{some}
 use Rattle.cars.specs.declared.Car.{Car}
 use Rattle.positions.specs.Ring.{Ring, no_more, user_node, a_junction, nodes_in}
 use Rattle.plan.specs.Plan.{node_places, ring_of}
 use Rattle.usernode.specs.declared.Node.{Node}
 use Rattle.turns.specs.declared.Turn.{Turn}
-use Rattle.turns.specs.declared.Event.TheVariants.{Nothing}
+use Rattle.turns.specs.declared.Event.{Event}
 use Rattle.usernode.specs.Node.{wants_train}
 use Rattle.turns.specs.Turn.{turn}
 use Rattle.usernode.specs.Astray.{astray}
 use Rattle.junction.specs.declared.Junction.{Junction}
 use Rattle.junction.specs.Turn.{junction_turn}
 use Rattle.ring.specs.declared.State.{State}
-use Rattle.ring.specs.declared.Happening.{Happening}
 use Rattle.ring.specs.State.{rest_node, rest_junction}
 
 -- the walk: the nodes passed, the junctions entered, the car sent by the last sender met, whether an own car met a node that was not
@@ -25,12 +24,12 @@ pub record Walk : Type 0 where
   pub last : Car
   pub astray : Bool
   pub nodes : List Node
-  pub events : List Happening
+  pub events : List (Option Event)
   pub junctions : List Junction
 
 -- no event at a node
-unfoldable pub quiet : Happening
-quiet = record { event = Nothing }
+unfoldable pub quiet : Option Event
+quiet = None
 
 -- the node and the junction that the walk comes to, as they were before the step
 unfoldable pub node_here : State → Walk → Node
@@ -52,7 +51,7 @@ on_node state walk =
       last = (node_here state walk).car;
       astray = walk.astray || astray (node_here state walk) (walk.passed + 1) walk.last;
       nodes = set walk.nodes walk.passed (turn_here state walk).node;
-      events = set walk.events walk.passed (record { event = (turn_here state walk).event });
+      events = set walk.events walk.passed (turn_here state walk).event;
       junctions = walk.junctions;
     }
 

@@ -1,77 +1,48 @@
 // Take, release and force, with their refusals: 13 first, then 7 to 12.
-ghost use Rattle.std.specs.Prelude.{◌≡◌, ◌≤◌, eqb};
+ghost use Rattle.std.specs.Prelude.{◌≡◌};
 ghost use Rattle.acts.specs.declared.Action.TheVariants.{Take, Release, Force};
-ghost use Rattle.acts.specs.Actions.{action_answer_number};
-ghost use Rattle.ring.specs.Actions.{action_number, acted_state, handed_back, action_told, acting};
+ghost use Rattle.ring.specs.Actions.{action_told, acting, outcome_told};
 
 use crate::{Acted, State};
-use acts::{Action, ActionAnswer};
-
-// Whether an action was accepted.
-fn accepts(answer: ActionAnswer) -> bool
-    ensures { result ≡ eqb (action_answer_number answer) 0 }
-{
-    acts::answer_number(answer) == 0
-}
+use acts::{Action, ActionRefusal};
 
 impl State {
-    // The answer 7 to 12 to an action, or that it is accepted.
-    fn answer(self, action: Action, node: u8, lock: u8) -> ActionAnswer
-        ensures { action_answer_number result ≡ action_number action self node lock }
+    // The state in which the named node has acted, or why it does not.
+    #[tactic(auto, using(crate::proofs::Laws::node_place), unfolding(crate::specs::Actions::outcome_told, crate::specs::Actions::acting, crate::specs::Actions::handed_back, crate::specs::Actions::action_number, crate::specs::Actions::acted_state, crate::specs::State::node_of, crate::specs::State::rest_node, lists::specs::Refusal::refused_if, acts::specs::Actions::action_refusal_number, acts::specs::Actions::action_answer_number))]
+    fn acted(self, action: Action, node: u8, lock: u8) -> Result<State, ActionRefusal>
+        ensures { outcome_told self result ≡ acting action self node lock }
     {
-        let plan = self.plan;
-        if cars::is_node(plan.nodes(), node) {
-            if lock < plan.locks {
-                let place = (node - 1) as usize;
-                let acting = self.nodes[place];
-                return acts::answer(acting, plan.rules, action, lock);
-            }
-            return ActionAnswer::NoSuchLock;
+        if !self.sound() {
+            return Err(ActionRefusal::BadState);
         }
-        ActionAnswer::NoSuchNode
-    }
-
-    // The state in which the named node has acted.
-    fn acted_state(self, action: Action, node: u8, lock: u8) -> State
-        requires { (1 ≤ node) × (node ≤ 64) }
-        ensures { result ≡ acted_state action self node lock }
-    {
+        if !cars::is_node(self.plan.nodes(), node) {
+            return Err(ActionRefusal::NoSuchNode);
+        }
+        if self.plan.locks <= lock {
+            return Err(ActionRefusal::NoSuchLock);
+        }
         let place = (node - 1) as usize;
-        let rules = self.plan.rules;
         let acting = self.nodes[place];
+        acts::answer(acting, self.plan.rules, action, lock)?;
         let mut next = self;
-        next.nodes[place] = acts::acted(acting, rules, action, lock);
-        next
-    }
-
-    // An action on a state that 13 does not refuse: the refusals are 7 to 12.
-    fn handed_back(self, action: Action, node: u8, lock: u8) -> Acted
-        ensures { action_told result ≡ handed_back (action_number action self node lock) (acted_state action self node lock) self }
-    {
-        let answer = self.answer(action, node, lock);
-        if accepts(answer) {
-            let next = self.acted_state(action, node, lock);
-            return Acted {
-                answer: answer,
-                state: next,
-            };
-        }
-        Acted {
-            answer: answer,
-            state: self,
-        }
+        next.nodes[place] = acts::acted(acting, self.plan.rules, action, lock);
+        Ok(next)
     }
 
     // An action on any state.
+    #[tactic(auto, unfolding(crate::specs::Actions::outcome_told, crate::specs::Actions::action_told, acts::specs::Actions::action_answer_number))]
     pub fn act(self, action: Action, node: u8, lock: u8) -> Acted
         ensures { action_told result ≡ acting action self node lock }
     {
-        if self.sound() {
-            return self.handed_back(action, node, lock);
-        }
-        Acted {
-            answer: ActionAnswer::BadState,
-            state: self,
+        match self.acted(action, node, lock) {
+            Ok(state) => Acted {
+                answer: Ok(()),
+                state,
+            },
+            Err(refusal) => Acted {
+                answer: Err(refusal),
+                state: self,
+            },
         }
     }
 

@@ -5,7 +5,7 @@ ghost use Rattle.std.specs.Prelude.{◌≡◌};
 ghost use Rattle.ring.specs.State.{plan_answer_number};
 ghost use Rattle.ring.specs.Step.{step_answer_number};
 
-use acts::ActionAnswer;
+use acts::ActionRefusal;
 use cars::Car;
 use junction::Junction;
 use plan::{JUNCTIONS, NODES, Plan};
@@ -39,37 +39,28 @@ pub struct State {
     pub junctions: [Junction; JUNCTIONS],
 }
 
-// The answer to a start that is asked: accepted, or 4.
-#[derive(Clone, Copy)]
-pub enum PlanAnswer {
-    InRange,
-    OutOfRange,
-}
+// Why a start is refused: the plan that it is asked of is out of range (4).
+#[derive(Clone, Copy, Debug, PartialEq, Eq)]
+pub struct PlanOutOfRange;
 
-// A start state and whether the plan was in range.
+// A start state and whether the plan was in range. Here and in `Acted` and `Stepped` the state stands beside the answer and not in it: 01 names methods
+// that take the state by value and return it with outcomes, refused or not.
 #[derive(Clone, Copy)]
 pub struct Started {
-    pub answer: PlanAnswer,
+    pub answer: Result<(), PlanOutOfRange>,
     pub state: State,
 }
 
 // The state after an action, or the state as it was and why.
 #[derive(Clone, Copy)]
 pub struct Acted {
-    pub answer: ActionAnswer,
+    pub answer: Result<(), ActionRefusal>,
     pub state: State,
 }
 
-// What a step did at one node.
-#[derive(Clone, Copy)]
-pub struct Happening {
-    pub event: Event,
-}
-
-// The answer to a step: done, or 13 to 15.
-#[derive(Clone, Copy)]
-pub enum StepAnswer {
-    Done,
+// Why a step is refused: 13 to 15.
+#[derive(Clone, Copy, Debug, PartialEq, Eq)]
+pub enum StepRefusal {
     BadState,
     QueueFull,
     Astray,
@@ -78,37 +69,40 @@ pub enum StepAnswer {
 // The state after a step and the event of each node, or the state as it was, no events, and why.
 #[derive(Clone, Copy)]
 pub struct Stepped {
-    pub answer: StepAnswer,
+    pub answer: Result<(), StepRefusal>,
     pub state: State,
-    pub events: [Happening; NODES],
+    pub events: [Option<Event>; NODES],
 }
 
 // The state after several steps, the events of the last of them, and how many were done.
 #[derive(Clone, Copy)]
 pub struct Advanced {
     pub state: State,
-    pub events: [Happening; NODES],
+    pub events: [Option<Event>; NODES],
     pub done: u16,
 }
 
-// The number of an answer to a start in 01; 0: accepted.
-pub fn plan_number(answer: PlanAnswer) -> u8
+// The number of an answer to a start in 01; 0: accepted. 01 gives the numbers, so the crates have such functions; a trait over one match each would be
+// longer than they are.
+#[tactic(auto, unfolding(crate::specs::State::plan_answer_number))]
+pub fn plan_number(answer: Result<(), PlanOutOfRange>) -> u8
     ensures { result ≡ plan_answer_number answer }
 {
     match answer {
-        PlanAnswer::InRange => 0,
-        PlanAnswer::OutOfRange => 4,
+        Ok(()) => 0,
+        Err(PlanOutOfRange) => 4,
     }
 }
 
 // The number of an answer to a step in 01; 0: done.
-pub fn step_number(answer: StepAnswer) -> u8
+#[tactic(auto, unfolding(crate::specs::Step::step_answer_number))]
+pub fn step_number(answer: Result<(), StepRefusal>) -> u8
     ensures { result ≡ step_answer_number answer }
 {
     match answer {
-        StepAnswer::Done => 0,
-        StepAnswer::BadState => 13,
-        StepAnswer::QueueFull => 14,
-        StepAnswer::Astray => 15,
+        Ok(()) => 0,
+        Err(StepRefusal::BadState) => 13,
+        Err(StepRefusal::QueueFull) => 14,
+        Err(StepRefusal::Astray) => 15,
     }
 }

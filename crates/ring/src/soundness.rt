@@ -1,83 +1,50 @@
 // The test of a made-up state (13).
-ghost use Rattle.std.specs.Prelude.{◌≡◌, ◌&&◌, ◌≤◌};
+ghost use Rattle.std.specs.Prelude.{◌≡◌, ◌≤◌, get_or};
 ghost use Rattle.lists.specs.Loops.{every};
-ghost use Rattle.ring.specs.Sound.{zero_passes, node_passes, junction_passes, sound};
+ghost use Rattle.usernode.specs.Sound.{node_sound};
+ghost use Rattle.junction.specs.Sound.{junction_sound};
+ghost use Rattle.ring.specs.State.{rest_node, rest_junction};
+ghost use Rattle.ring.specs.Sound.{sound};
 
 use crate::State;
-use positions::Survey;
-
-// Whether the surveyed plan is in range.
-fn is_right(survey: Survey) -> bool
-    ensures { result ≡ survey.right }
-{
-    survey.right
-}
+use cars::Limits;
 
 impl State {
-    // Whether the first `count` nodes pass.
-    fn nodes_pass(self, nodes: u8, count: usize) -> bool
-        requires { count ≤ 64 }
-        ensures { result ≡ every (node_passes self nodes) count }
+    // Whether as many nodes as there are pass.
+    fn nodes_pass(self, limits: Limits) -> bool
+        requires { limits.nodes ≤ 64 }
+        ensures { result ≡ every (λ place. node_sound limits.rules limits.nodes limits.locks (get_or self.nodes place rest_node)) limits.nodes }
     {
-        let rules = self.plan.rules;
-        let locks = self.plan.locks;
-        let mut i = 0;
-        while i < count {
-            let node = self.nodes[i];
-            if node.sound(rules, nodes, locks) {
-                i += 1;
-            } else {
-                return false;
-            }
-        }
-        true
+        self.nodes[..limits.nodes as usize]
+            .iter()
+            .all(|node| node.sound(limits))
     }
 
-    // Whether the first `count` junctions pass.
-    fn junctions_pass(self, nodes: u8, count: usize) -> bool
+    // Whether the first `count` junctions pass. Apart from `nodes_pass`: one function for both would need a trait with its law for `sound`, which is longer.
+    fn junctions_pass(self, limits: Limits, count: usize) -> bool
         requires { count ≤ 144 }
-        ensures { result ≡ every (junction_passes self nodes) count }
+        ensures { result ≡ every (λ place. junction_sound limits.rules limits.nodes limits.locks (get_or self.junctions place rest_junction)) count }
     {
-        let rules = self.plan.rules;
-        let locks = self.plan.locks;
-        let mut i = 0;
-        while i < count {
-            let junction = self.junctions[i];
-            if junction.sound(rules, nodes, locks) {
-                i += 1;
-            } else {
-                return false;
-            }
-        }
-        true
-    }
-
-    // Whether the zero node and the first nodes and junctions pass.
-    fn parts_pass(self, nodes: u8, junctions: u8) -> bool
-        requires { (nodes ≤ 64) × (junctions ≤ 144) }
-        ensures { result ≡ (zero_passes self nodes && every (node_passes self nodes) nodes && every (junction_passes self nodes) junctions) }
-    {
-        let rules = self.plan.rules;
-        let locks = self.plan.locks;
-        let zeroth = self.zeroth;
-        if zeroth.sound(rules, nodes, locks) {
-            if self.nodes_pass(nodes, nodes as usize) {
-                return self.junctions_pass(nodes, junctions as usize);
-            }
-            return false;
-        }
-        false
+        self.junctions[..count]
+            .iter()
+            .all(|junction| junction.sound(limits))
     }
 
     // Whether nothing of the state is what 13 refuses.
+    #[tactic(auto, using(plan::proofs::Laws::nodes_most, plan::proofs::Laws::junctions_most), unfolding(crate::specs::Sound::sound, crate::specs::Sound::zero_passes, crate::specs::Sound::node_passes, crate::specs::Sound::junction_passes, plan::specs::Plan::plan_survey))]
     pub fn sound(self) -> bool
         ensures { result ≡ sound self }
     {
-        let plan = self.plan;
-        let survey = plan.survey();
-        if is_right(survey) {
-            return self.parts_pass(survey.nodes as u8, survey.junctions as u8);
-        }
-        false
+        let Some(survey) = self.plan.survey() else {
+            return false;
+        };
+        let limits = Limits {
+            rules: self.plan.rules,
+            nodes: survey.nodes as u8,
+            locks: self.plan.locks,
+        };
+        self.zeroth.sound(limits)
+            && self.nodes_pass(limits)
+            && self.junctions_pass(limits, survey.junctions as usize)
     }
 }

@@ -2,7 +2,7 @@
 ghost use Rattle.std.specs.Prelude.{◌≡◌};
 ghost use Rattle.ring.specs.State.{rest_node, rest_junction, start_of, small_plan, start_told, starting};
 
-use crate::{PlanAnswer, Started, State};
+use crate::{PlanOutOfRange, Started, State};
 use cars::Car;
 use junction::Junction;
 use plan::{JUNCTIONS, NODES, Plan};
@@ -11,6 +11,7 @@ use usernode::{Activity, Node};
 use zeronode::ZeroNode;
 
 // A node that rests: what an unused place holds.
+#[tactic(auto, unfolding(crate::specs::State::rest_node))]
 fn rest_node() -> Node
     ensures { result ≡ rest_node }
 {
@@ -24,6 +25,7 @@ fn rest_node() -> Node
 }
 
 // A junction that rests.
+#[tactic(auto, unfolding(crate::specs::State::rest_junction))]
 fn rest_junction() -> Junction
     ensures { result ≡ rest_junction }
 {
@@ -37,6 +39,7 @@ fn rest_junction() -> Junction
 }
 
 // Plan 1, 1, 1, 0.
+#[tactic(auto, unfolding(crate::specs::State::small_plan))]
 fn small_plan() -> Plan
     ensures { result ≡ small_plan }
 {
@@ -44,39 +47,39 @@ fn small_plan() -> Plan
         rules: 1,
         locks: 1,
         positions: 1,
-        values: [0u8; VALUES],
+        values: [0; VALUES],
     }
 }
 
 // The zero node sends the token, all others rest.
+#[tactic(auto, unfolding(crate::specs::State::start_of))]
 fn start_of(plan: Plan) -> State
     ensures { result ≡ start_of plan }
 {
-    let zeroth = ZeroNode::start();
-    let nodes = [rest_node(); NODES];
-    let junctions = [rest_junction(); JUNCTIONS];
     State {
-        plan: plan,
-        zeroth: zeroth,
-        nodes: nodes,
-        junctions: junctions,
+        plan,
+        zeroth: ZeroNode::start(),
+        nodes: [rest_node(); NODES],
+        junctions: [rest_junction(); JUNCTIONS],
     }
 }
 
 impl State {
     // The start state of a plan; for a plan out of range 4, with the start state of plan 1, 1, 1, 0 beside it.
+    #[tactic(auto, unfolding(crate::specs::State::start_told, crate::specs::State::starting, crate::specs::State::start_state, crate::specs::State::plan_answer_number, plan::specs::Plan::plan_number))]
     pub fn start(plan: Plan) -> Started
         ensures { start_told result ≡ starting plan }
     {
         if plan.in_range() {
-            return Started {
-                answer: PlanAnswer::InRange,
+            Started {
+                answer: Ok(()),
                 state: start_of(plan),
-            };
-        }
-        Started {
-            answer: PlanAnswer::OutOfRange,
-            state: start_of(small_plan()),
+            }
+        } else {
+            Started {
+                answer: Err(PlanOutOfRange),
+                state: start_of(small_plan()),
+            }
         }
     }
 }

@@ -1,25 +1,22 @@
 // The step, with its refusals: 13, 14, 15.
-ghost use Rattle.std.specs.Prelude.{◌≡◌, true};
+ghost use Rattle.std.specs.Prelude.{◌≡◌, true, Err};
 ghost use Rattle.plan.specs.Plan.{in_range};
 ghost use Rattle.ring.specs.Step.{step_told, moving, stepping, step_answer_number, refused};
 
-use crate::{Happening, State, StepAnswer, Stepped};
+use crate::{State, StepRefusal, Stepped};
 use plan::NODES;
 use route::LEGS;
-use turns::Event;
 
 impl State {
     // The state as it was, with no events.
-    pub(crate) fn refused(self, answer: StepAnswer) -> Stepped
-        ensures { step_told result ≡ refused (step_answer_number answer) self }
+    #[tactic(auto, unfolding(crate::specs::Step::step_told, crate::specs::Step::refused, crate::specs::Walk::quiet))]
+    pub(crate) fn refused(self, refusal: StepRefusal) -> Stepped
+        ensures { step_told result ≡ refused (step_answer_number (Err refusal)) self }
     {
-        let events = [Happening {
-            event: Event::Nothing,
-        }; NODES];
         Stepped {
-            answer: answer,
+            answer: Err(refusal),
             state: self,
-            events: events,
+            events: [None; NODES],
         }
     }
 
@@ -28,20 +25,20 @@ impl State {
         requires { in_range self.plan ≡ true }
         ensures { step_told result ≡ moving self }
     {
-        let plan = self.plan;
-        let values = plan.values;
-        let mut route = [0u16; LEGS];
-        let laid = route::lay_route(values, plan.positions, &mut route);
+        let mut route = [0; LEGS];
+        let laid = route::lay_route(self.plan.values, self.plan.positions, &mut route);
         self.moving(&route[..laid])
     }
 
     // One step of any state.
+    #[tactic(auto, using(crate::proofs::Laws::sound_plan), unfolding(crate::specs::Step::stepping, crate::specs::Step::step_answer_number))]
     pub fn step(self) -> Stepped
         ensures { step_told result ≡ stepping self }
     {
         if self.sound() {
-            return self.step_sound();
+            self.step_sound()
+        } else {
+            self.refused(StepRefusal::BadState)
         }
-        self.refused(StepAnswer::BadState)
     }
 }

@@ -1,6 +1,6 @@
 -- Whether a route fits, from what the survey of its positions tells.
 use Prim.Native.Nat.{ℕ, ◌+◌, ◌*◌, ◌≤◌, ◌<◌}
-use mathlib.Core.Path.{◌≡◌, refl, sym, ap, ◌∙◌}
+use mathlib.Core.Path.{◌≡◌, refl, ap, ◌∙◌}
 use mathlib.Core.Bool.{Bool, true, false, cond, ◌&&◌}
 use mathlib.Core.List.{List, []}
 use native.Mathlib.Omega.{arith}
@@ -8,6 +8,7 @@ use borrow.Author.Tests.{le-leb, lt-leb, leb-true}
 use lib.Dec.{leb}
 use lib.ListN.{length, take}
 use lib.Seq.{sets}
+use Rattle.std.specs.Prelude.{Option, Some, None}
 use Rattle.positions.specs.declared.Survey.{Survey}
 use Rattle.positions.specs.Ring.{nodes_in, junctions_in}
 use Rattle.positions.specs.Reading.{Reading, main_ring, survey_of}
@@ -18,20 +19,27 @@ use Rattle.route.specs.Laying.{legs_in, Layable}
 use Rattle.route.proofs.Stores.{taken_back}
 use Rattle.route.proofs.Routes.{legs}
 
--- what the survey tells of positions in range
-right_told : (read : Reading) → (survey_of read).right ≡ read.right
-unfolding survey_of
-right_told read = by_right read.right (nodes_in read.ring) (junctions_in read.ring)
-  where
-    by_right : (b : Bool) (nodes junctions : ℕ)
-        → ◌≡◌ {A = Bool} (cond {A = Survey} b (record { right = true; nodes = nodes; junctions = junctions }) (record { right = false; nodes = 0; junctions = 0 })).right b
-    by_right true nodes junctions = refl
-    by_right false nodes junctions = refl
+-- what the survey tells of positions in range, and that it tells nothing of others
+abbrev told_of : Reading → Bool → Option Survey
+told_of read right = cond right (Some (record { nodes = nodes_in read.ring; junctions = junctions_in read.ring })) None
 
-counts_told : (read : Reading) → read.right ≡ true → survey_of read ≡ record { right = true; nodes = nodes_in read.ring; junctions = junctions_in read.ring }
+told_some : (read : Reading) {survey : Survey} → Some survey ≡ survey_of read
+    → (read.right ≡ true) × (survey ≡ record { nodes = nodes_in read.ring; junctions = junctions_in read.ring })
 unfolding survey_of
-counts_told read e =
-    ap (λ (b : Bool). cond {A = Survey} b (record { right = true; nodes = nodes_in read.ring; junctions = junctions_in read.ring }) (record { right = false; nodes = 0; junctions = 0 })) e
+told_some read {survey} e = by_right read.right refl e
+  where
+    by_right : (b : Bool) → read.right ≡ b → Some survey ≡ told_of read b
+        → (read.right ≡ true) × (survey ≡ record { nodes = nodes_in read.ring; junctions = junctions_in read.ring })
+    by_right true right e = (right, cc)
+    by_right false right e = absurd (cc)
+
+told_none : (read : Reading) → None ≡ survey_of read → read.right ≡ false
+unfolding survey_of
+told_none read e = by_right read.right e
+  where
+    by_right : (b : Bool) → None ≡ told_of read b → b ≡ false
+    by_right true e = absurd (cc)
+    by_right false e = refl
 
 -- positions in range of at most 352 bytes have at most 1,408 user nodes and 352 junctions
 few_told : (values : List ℕ) (count : ℕ) → length values ≡ 352 → (main_ring values count).right ≡ true
@@ -56,38 +64,34 @@ module _ (values : List ℕ) (count room : ℕ) where
       ∙ ap (λ (b : Bool). cond (right && b) (route_of values count) []) f
 
   -- by the survey: not in range, no room, or all of it
-  module _ (survey : Survey) (told : survey ≡ survey_of (main_ring values count)) where
-    in_range : {b : Bool} → survey.right ≡ b → (main_ring values count).right ≡ b
-    in_range e = sym (right_told (main_ring values count)) ∙ sym (ap (λ (s : Survey). s.right) told) ∙ e
+  pub laid_wrong : None ≡ survey_of (main_ring values count) → laid_in room values count ≡ []
+  laid_wrong none = chosen false (leb (length (route_of values count)) room) (told_none (main_ring values count) none) refl
 
-    legs_told : survey.right ≡ true → length (route_of values count) ≡ survey.nodes + 2 * survey.junctions
-    legs_told right =
-        let all = told ∙ counts_told (main_ring values count) (in_range right) in
+  module _ {survey : Survey} (told : Some survey ≡ survey_of (main_ring values count)) {many : ℕ} (e : many ≡ survey.nodes + 2 * survey.junctions) where
+    legs_told : length (route_of values count) ≡ many
+    legs_told =
+        let all = (told_some (main_ring values count) told).1 in
         let nodes : survey.nodes ≡ nodes_in (main_ring values count).ring = ap (λ (s : Survey). s.nodes) all in
         let junctions : survey.junctions ≡ junctions_in (main_ring values count).ring = ap (λ (s : Survey). s.junctions) all in
-        omega (arith, route_long values count, nodes, junctions)
+        omega (arith, route_long values count, nodes, junctions, e)
 
-    pub laid_wrong : survey.right ≡ false → laid_in room values count ≡ []
-    laid_wrong wrong = chosen false (leb (length (route_of values count)) room) (in_range wrong) refl
+    pub laid_short : room < many → laid_in room values count ≡ []
+    laid_short short =
+        chosen true false (told_some (main_ring values count) told).0 (lt-leb (length (route_of values count)) room (omega (arith, legs_told, short)))
 
-    pub laid_short : {many : ℕ} → survey.right ≡ true → many ≡ survey.nodes + 2 * survey.junctions → room < many → laid_in room values count ≡ []
-    laid_short right e short =
-        chosen true false (in_range right) (lt-leb (length (route_of values count)) room (omega (arith, legs_told right, e, short)))
+    pub laid_fits : many ≤ room → laid_in room values count ≡ route_of values count
+    laid_fits fits =
+        chosen true true (told_some (main_ring values count) told).0 (le-leb (length (route_of values count)) room (omega (arith, legs_told, fits)))
 
-    pub laid_fits : {many : ℕ} → survey.right ≡ true → many ≡ survey.nodes + 2 * survey.junctions → many ≤ room
-        → laid_in room values count ≡ route_of values count
-    laid_fits right e fits =
-        chosen true true (in_range right) (le-leb (length (route_of values count)) room (omega (arith, legs_told right, e, fits)))
-
-    pub fits_layable : {many : ℕ} → length values ≡ 352 → survey.right ≡ true → many ≡ survey.nodes + 2 * survey.junctions → many ≤ room
-        → Layable (length values) room (main_ring values count) 0 0 0
+    pub fits_layable : length values ≡ 352 → many ≤ room → Layable (length values) room (main_ring values count) 0 0 0
     unfolding legs_in
-    fits_layable long right e fits =
-        let few = few_told values count long (in_range right) in
+    fits_layable long fits =
+        let right = (told_some (main_ring values count) told).0 in
+        let few = few_told values count long right in
         record {
-          in_range = in_range right;
+          in_range = right;
           few = omega (arith, long);
-          fits = omega (arith, route_long values count, legs_told right, e, fits);
+          fits = omega (arith, route_long values count, legs_told, fits);
           few_nodes = omega (arith, few.0);
           few_junctions = omega (arith, few.1);
         }

@@ -1,10 +1,10 @@
 -- The route of a ring: its senders in travelling order as numbers. A user node is one sender; a junction is its subring car, then the
 -- senders within it, then its main car.
-use Rattle.std.specs.Prelude.{ℕ, ◌+◌, ◌-◌, Bool, true, false, cond, ◌&&◌, List, [], ◌∷◌, ◌++◌, leb, ltb, length}
+use Rattle.std.specs.Prelude.{ℕ, ◌+◌, ◌-◌, Bool, true, false, cond, ◌&&◌, List, [], ◌∷◌, ◌++◌, leb, ltb, length, Option, Some, None}
 use Rattle.positions.specs.Ring.{Ring, no_more, user_node, a_junction, nodes_in, junctions_in}
 use Rattle.positions.specs.Reading.{main_ring}
 use Rattle.route.specs.declared.Leg.{Leg}
-use Rattle.route.specs.declared.Leg.TheVariants.{Nowhere, At, Into, Out}
+use Rattle.route.specs.declared.Leg.TheVariants.{At, Into, Out}
 
 -- the numbers: below 64 the user node at that place; from 64 on into a junction, by its place; from 208 on out of a junction on the main
 -- ring; from 352 to 495 out of an inner junction
@@ -14,11 +14,11 @@ into_number place = 64 + place
 unfoldable pub out_number : Bool → ℕ → ℕ
 out_number inner place = cond inner (352 + place) (208 + place)
 
-unfoldable pub leg_of : ℕ → Leg
+unfoldable pub leg_of : ℕ → Option Leg
 leg_of number =
-    cond (ltb number 64) (At number)
-    (cond (ltb number 208) (Into (number - 64))
-    (cond (ltb number 352) (Out false (number - 208)) (cond (ltb number 496) (Out true (number - 352)) Nowhere)))
+    cond (ltb number 64) (Some (At number))
+    (cond (ltb number 208) (Some (Into (number - 64)))
+    (cond (ltb number 352) (Some (Out false (number - 208))) (cond (ltb number 496) (Some (Out true (number - 352))) None)))
 
 -- the route along a ring whose first user node and first junction stand at these places; `inner`: it is a subring
 unfoldable pub route_at : Bool → Ring → ℕ → ℕ → List ℕ

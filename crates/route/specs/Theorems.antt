@@ -1,5 +1,5 @@
 -- What proofs/ proves over the definitions, as sentences.
-use Rattle.std.specs.Prelude.{ℕ, ◌+◌, ◌*◌, ◌≤◌, ◌<◌, ◌≡◌, Bool, true, false, cond, List, [], ◌∷◌, ◌++◌, map, eqb, length}
+use Rattle.std.specs.Prelude.{ℕ, ◌+◌, ◌*◌, ◌≤◌, ◌<◌, ◌≡◌, Bool, true, false, cond, List, [], ◌∷◌, ◌++◌, map, eqb, length, Some}
 use Rattle.positions.specs.Ring.{Ring, no_more, user_node, a_junction, nodes_in, junctions_in}
 use Rattle.route.specs.declared.Leg.{Leg}
 use Rattle.route.specs.declared.Leg.TheVariants.{At, Into, Out}
@@ -18,7 +18,7 @@ legs_at inner (a_junction subring rest) node junction =
 abbrev pub NumbersTellLegs : Type 0
 NumbersTellLegs =
     (inner : Bool) (ring : Ring) (node junction : ℕ) → node + nodes_in ring ≤ 64 → junction + junctions_in ring ≤ 144
-    → map leg_of (route_at inner ring node junction) ≡ legs_at inner ring node junction
+    → map leg_of (route_at inner ring node junction) ≡ map Some (legs_at inner ring node junction)
 
 -- one number a user node and two a junction
 abbrev pub OneANodeTwoAJunction : Type 0

@@ -1,4 +1,5 @@
 -- The buffers filled one after the other hold exactly the definition's lines.
+use Rattle.std.specs.Prelude.{Option, Some, None, Result, Ok, Err}
 use Prim.Native.Nat.{ℕ, zero, suc, ◌-◌, ◌≤◌, ◌<◌}
 use mathlib.Core.Path.{◌≡◌, refl, ◌∙◌, sym, ap, subst}
 use mathlib.Core.Bool.{Bool, true, false}
@@ -10,8 +11,7 @@ use borrow.Author.Tests.{ltb-true, ltb-false, leb-true, leb-false}
 use Rattle.lines.proofs.Laws.{line-length_most}
 use Rattle.items.specs.declared.Item.{Item}
 use Rattle.items.specs.declared.Item.TheVariants.{Steps, Act}
-use Rattle.items.specs.declared.ItemAnswer.{ItemAnswer}
-use Rattle.items.specs.declared.ItemAnswer.TheVariants.{NoMore, Found, LeftOver, Bad}
+use Rattle.items.specs.declared.ItemRefusal.{ItemRefusal}
 use Rattle.items.specs.Items.{read_at}
 use Rattle.wording.specs.declared.Line.{Line}
 use Rattle.course.specs.declared.Run.{Run}
@@ -23,13 +23,13 @@ use Rattle.course.specs.Wording.{event_here, is_event}
 use Rattle.course.specs.Whole.{Course, says, silence, course, and_others}
 use Rattle.course.specs.Ready.{is_act, is_action, ready_in, ready}
 use Rattle.course.specs.Several.{AtOnce, several_steps}
-use Rattle.run.specs.Current.{saying_now}
+use Rattle.run.specs.Current.{Saying, saying_now}
 use Rattle.run.specs.Filling.{texts, fitting, stops_at, written, filling, in_buffers, after_buffers}
 use Rattle.run.specs.Theorems.{HeldAndStillToSay, TheBuffersHoldTheLines}
 use Rattle.run.proofs.Numbers.{numbers_four}
-use Rattle.run.proofs.Ready.{ready_goes, course_over}
+use Rattle.run.proofs.Ready.{Goes, ready_goes, course_over}
 use Rattle.course.proofs.Way.{Way, to_go, sets_out, way_past, way_several, way_steps, past_nearer, several_nearer, steps_nearer, at_event, at_action, at_ceiling, at-items_end}
-use Rattle.run.proofs.Fills.{stops_in, stops_fits, stops_full, written_fits, written_full, fewer_lines}
+use Rattle.run.proofs.Fills.{stops_in, stops_fits, stops_full, written_fits, written_full}
 
 -- the run at its next line: the course is the same
 pub data Next (ceiling : ℕ) (schedule : List ℕ) (start : Run) : Type 0 where
@@ -57,19 +57,17 @@ at_none : (ceiling : ℕ) (schedule : List ℕ) (nodes : ℕ) (start run : Run) 
 at_none ceiling schedule nodes start run w told left none =
     let a = at-items_end ceiling schedule nodes start run w told left none in next (at_end Ended run) a.0 a.1
 
-at_item : (ceiling : ℕ) (schedule : List ℕ) (nodes : ℕ) (start run : Run) (answer : ItemAnswer) → Way ceiling schedule nodes start run → Again ceiling schedule nodes start run
+at_item : (ceiling : ℕ) (schedule : List ℕ) (nodes : ℕ) (start run : Run) (answer : Result (Option Item) ItemRefusal) → Way ceiling schedule nodes start run → Again ceiling schedule nodes start run
     → nodes ≤ run.next → run.left ≤ 0 → (read_at schedule run.at).answer ≡ answer → Next ceiling schedule start
 unfolding and_others is_action is_act
-at_item ceiling schedule nodes start run NoMore w again told left e =
-    at_none ceiling schedule nodes start run w told left (λ others. ap (λ (a : ItemAnswer). and_others a others) e)
-at_item ceiling schedule nodes start run (Found (Steps n)) w again told left e =
+at_item ceiling schedule nodes start run (Ok None) w again told left e =
+    at_none ceiling schedule nodes start run w told left (λ others. ap (λ a. and_others a others) e)
+at_item ceiling schedule nodes start run (Ok (Some (Steps n))) w again told left e =
     again (steps_item n run) (way_steps ceiling schedule nodes start run n w told left e) (steps_nearer schedule nodes run n left e)
-at_item ceiling schedule nodes start run (Found (Act action node lock)) w again told left e =
+at_item ceiling schedule nodes start run (Ok (Some (Act action node lock))) w again told left e =
     let a = at_action ceiling schedule nodes start run w told left (ap is_action e) in next run a.0 a.1
-at_item ceiling schedule nodes start run LeftOver w again told left e =
-    at_none ceiling schedule nodes start run w told left (λ others. ap (λ (a : ItemAnswer). and_others a others) e)
-at_item ceiling schedule nodes start run (Bad place) w again told left e =
-    at_none ceiling schedule nodes start run w told left (λ others. ap (λ (a : ItemAnswer). and_others a others) e)
+at_item ceiling schedule nodes start run (Err refusal) w again told left e =
+    at_none ceiling schedule nodes start run w told left (λ others. ap (λ a. and_others a others) e)
 
 at_left : (ceiling : ℕ) (schedule : List ℕ) (nodes : ℕ) (start run : Run) (none : Bool) → Way ceiling schedule nodes start run → Again ceiling schedule nodes start run
     → nodes ≤ run.next → leb run.left 0 ≡ none → Next ceiling schedule start
@@ -98,7 +96,7 @@ next_in ceiling schedule run Items o p =
     within (suc (to_go schedule (nodes_of run) run)) ceiling schedule (nodes_of run) run run (sets_out ceiling schedule (nodes_of run) run o p refl) q
 next_in ceiling schedule run Ended o p = next run refl (simp (o, p))
 next_in ceiling schedule run Cut o p = next run refl (simp (o, p))
-next_in ceiling schedule run (Refused number place) o p = next run refl (simp (o, p))
+next_in ceiling schedule run (Refused refusal) o p = next run refl (simp (o, p))
 
 next_by : (ceiling : ℕ) (schedule : List ℕ) (run : Run) (over : Bool) → run.over ≡ over → Next ceiling schedule run
 unfolding ready
@@ -164,17 +162,21 @@ abbrev Shorter : ℕ → List ℕ → Run → Type 0
 Shorter ceiling schedule run =
     (room : ℕ) (after : Run) → length (course ceiling schedule after).lines < length (course ceiling schedule run).lines → Leaves ceiling schedule room (course ceiling schedule after)
 
-one_fewer : (ceiling : ℕ) (schedule : List ℕ) (run : Run) → ready schedule run ≡ true → run.over ≡ false
-    → length (course ceiling schedule (saying_now schedule run).run).lines < length (course ceiling schedule run).lines
-one_fewer ceiling schedule run r o = fewer_lines ceiling schedule run (saying_now schedule run).run (saying_now schedule run) r o refl refl
+-- what is said of a run that is not over leaves fewer lines
+leaves_said : (ceiling : ℕ) (schedule : List ℕ) (room : ℕ) (run : Run) (said : Option Saying) → Shorter ceiling schedule run → Goes ceiling schedule run said
+    → Leaves ceiling schedule room (course ceiling schedule run)
+unfolding says
+leaves_said ceiling schedule room run None again goes = absurd goes
+leaves_said ceiling schedule room run (Some said) again goes =
+    let fewer : length (course ceiling schedule said.run).lines < length (course ceiling schedule run).lines =
+    omega (arith, ap (λ (c : Course). length c.lines) goes) in
+    subst (Leaves ceiling schedule room) (sym goes) (leaves-line ceiling schedule room said.line run said.run _ goes (λ less. again less said.run fewer) refl)
 
 leaves_at : (ceiling : ℕ) (schedule : List ℕ) (room : ℕ) (run : Run) (over : Bool) → ready schedule run ≡ true → Shorter ceiling schedule run → run.over ≡ over
     → Leaves ceiling schedule room (course ceiling schedule run)
 leaves_at ceiling schedule room run true r again o = rw (course_over ceiling schedule run o) (leaves-silence ceiling schedule room run o)
 leaves_at ceiling schedule room run false r again o =
-    let goes = ready_goes ceiling schedule run r o in
-    subst (Leaves ceiling schedule room) (sym goes)
-    (leaves-line ceiling schedule room _ run _ _ goes (λ less. again less _ (one_fewer ceiling schedule run r o)) refl)
+    leaves_said ceiling schedule room run (saying_now schedule run) again (ready_goes ceiling schedule run r o)
 
 leaves_next : (ceiling : ℕ) (schedule : List ℕ) (room : ℕ) (run : Run) → Next ceiling schedule run → Shorter ceiling schedule run
     → Leaves ceiling schedule room (course ceiling schedule run)

@@ -1,4 +1,5 @@
 -- The loop that fills a buffer: what is written so far, and what the run still says, are together what it said from the start.
+use Rattle.std.specs.Prelude.{Option, Some, None}
 use Prim.Native.Nat.{ℕ, suc, ◌+◌, ◌-◌, ◌≤◌, ◌<◌}
 use mathlib.Core.Path.{◌≡◌, refl, ◌∙◌, sym, ap}
 use mathlib.Core.Bool.{Bool, true, false, cond}
@@ -9,16 +10,14 @@ use lib.ListN.{length, take, drop, length-append, length-drop, take-append-drop}
 use lib.Seq.{length-take-le, take_at, drop_at, drop-drop}
 use borrow.Author.Tests.{le-leb, lt-leb, leb-true, leb-false}
 use Rattle.lines.specs.Line.{buffer_after}
-use Rattle.lines.proofs.Laws.{line-length}
 use Rattle.course.specs.declared.Run.{Run}
 use Rattle.wording.specs.declared.Line.{Line}
-use Rattle.run.specs.declared.Saying.{Saying}
-use Rattle.wording.specs.Wording.{numbers_of, text}
+use Rattle.wording.specs.Wording.{text}
 use Rattle.course.specs.Whole.{Course, says, silence, course}
 use Rattle.course.specs.Ready.{ready}
-use Rattle.run.specs.Current.{saying_now}
+use Rattle.run.specs.Current.{Saying}
 use Rattle.run.specs.Filling.{texts, fitting, stops_at, written, filling, filled_buffer}
-use Rattle.run.proofs.Ready.{ready_goes, course_over}
+use Rattle.run.proofs.Ready.{Goes, course_over}
 
 -- what a course would leave in so many bytes: the run, and the text
 abbrev pub stops_in : ℕ → Course → Run
@@ -95,67 +94,48 @@ full_over ceiling schedule buffer start run used bytes f o =
     (ap (stops_in (length buffer - used)) (course_over ceiling schedule run o))
     (ap (written (length buffer - used)) (course_over ceiling schedule run o))
 
--- what is said is the line that the run is at, and the run after it
-said_goes : (ceiling : ℕ) (schedule : List ℕ) (run : Run) (said : Saying) → ready schedule run ≡ true → run.over ≡ false → said ≡ saying_now schedule run
-    → course ceiling schedule run ≡ says said.line run said.run (course ceiling schedule said.run)
-said_goes ceiling schedule run said r o s = rw s (ready_goes ceiling schedule run r o)
+-- what is answered of a line behind the used bytes: its length where it fits
+abbrev Answers : List ℕ → ℕ → Line → Option ℕ → Type 0
+Answers bytes used l answer = answer ≡ cond (leb (length (text l)) (length bytes - used)) (Some (length (text l))) None
 
--- what is answered of a line behind the used bytes: its length where it fits, else 0
-abbrev Answers : List ℕ → ℕ → Line → ℕ → Type 0
-Answers bytes used l n = n ≡ cond (leb (length (text l)) (length bytes - used)) (length (text l)) 0
+none_fits : (b : Bool) (m : ℕ) → None ≡ cond b (Some m) None → b ≡ false
+none_fits true m e = cc
+none_fits false m e = refl
 
-text-some : (l : Line) → 0 < length (text l)
-unfolding text
-text-some l = omega (arith, line-length l.steps l.letter (numbers_of l))
-
-none_fits : (b : Bool) (n m : ℕ) → n ≡ cond b m 0 → n ≡ 0 → 0 < m → b ≡ false
-none_fits true n m e z p = absurd (omega (arith, e))
-none_fits false n m e z p = refl
-
-some_fits : (b : Bool) (n m : ℕ) → n ≡ cond b m 0 → (n ≡ 0 → ⊥) → b ≡ true
-some_fits true n m e z = refl
-some_fits false n m e z = absurd (z e)
-
--- a line that is written is no longer than the room
-pub line_inside : (bytes : List ℕ) (used room : ℕ) (l : Line) (n : ℕ) → length bytes - used ≤ room → Answers bytes used l n → n ≤ room
-line_inside bytes used room l n within a = inside_by (leb (length (text l)) (length bytes - used)) (length (text l)) refl a
-  where
-    inside_by : (b : Bool) (m : ℕ) → leb m (length bytes - used) ≡ b → n ≡ cond b m 0 → n ≤ room
-    inside_by true m e q = omega (arith, leb-true m (length bytes - used) e, within, q)
-    inside_by false m e q = omega (arith, q)
+some_fits : (b : Bool) (n m : ℕ) → Some n ≡ cond b (Some m) None → (b ≡ true) × (n ≡ m)
+some_fits true n m e = (refl, cc)
+some_fits false n m e = cc
 
 -- the line does not fit: the buffer is as it was
-pub full_line : (ceiling : ℕ) (schedule buffer : List ℕ) (start run : Run) (used : ℕ) (bytes next : List ℕ) (n : ℕ) (said : Saying)
-    → Fills ceiling schedule buffer start run used bytes → run.over ≡ false → said ≡ saying_now schedule run → Answers bytes used said.line n → n ≡ 0
+pub full_line : (ceiling : ℕ) (schedule buffer : List ℕ) (start run : Run) (used : ℕ) (bytes next : List ℕ) (said : Saying)
+    → Fills ceiling schedule buffer start run used bytes → Goes ceiling schedule run (Some said) → Answers bytes used said.line None
     → next ≡ take used bytes ++ buffer_after (drop used bytes) (text said.line) → Full ceiling schedule buffer start run used next
 unfolding buffer_after
-full_line ceiling schedule buffer start run used bytes next n said f o s a z e =
-    let short : leb (length (text said.line)) (length bytes - used) ≡ false = none_fits _ n _ a z (text-some said.line) in
+full_line ceiling schedule buffer start run used bytes next said f goes a e =
+    let short : leb (length (text said.line)) (length bytes - used) ≡ false = none_fits _ _ a in
     let full : length buffer - used < length (text said.line) = omega (arith, leb-false (length (text said.line)) (length bytes - used) short, f.long) in
     let same : next ≡ bytes = e ∙ rw (length-drop used bytes, short) (take-append-drop used bytes) in
-    let goes = said_goes ceiling schedule run said f.ready_now o s in
     rw same (full_by ceiling schedule buffer start run used bytes f
     (ap (stops_in (length buffer - used)) goes ∙ stops_full _ _ _ _ _ full)
     (ap (written (length buffer - used)) goes ∙ written_full _ _ _ _ _ full))
 
 -- the line fits: it is written, and the run goes on
 pub fills_line : (ceiling : ℕ) (schedule buffer : List ℕ) (start run after : Run) (used : ℕ) (bytes next : List ℕ) (n : ℕ) (said : Saying)
-    → Fills ceiling schedule buffer start run used bytes → run.over ≡ false → said ≡ saying_now schedule run → Answers bytes used said.line n → (n ≡ 0 → ⊥)
+    → Fills ceiling schedule buffer start run used bytes → Goes ceiling schedule run (Some said) → Answers bytes used said.line (Some n)
     → next ≡ take used bytes ++ buffer_after (drop used bytes) (text said.line)
     → course ceiling schedule after ≡ course ceiling schedule said.run → ready schedule after ≡ true
     → Fills ceiling schedule buffer start after (used + n) next
 unfolding buffer_after
-fills_line ceiling schedule buffer start run after used bytes next n said f o s a z e same r =
+fills_line ceiling schedule buffer start run after used bytes next n said f goes a e same r =
     let line = said.line in
-    let fits : leb (length (text line)) (length bytes - used) ≡ true = some_fits _ n _ a z in
-    let count : n ≡ length (text line) = a ∙ ap (λ (b : Bool). cond b (length (text line)) 0) fits in
+    let fits : leb (length (text line)) (length bytes - used) ≡ true = (some_fits _ n _ a).0 in
+    let count : n ≡ length (text line) = (some_fits _ n _ a).1 in
     let room : length (text line) ≤ length buffer - used = omega (arith, leb-true (length (text line)) (length bytes - used) fits, f.long) in
     let front : length (take used bytes) ≡ used = length-take-le used bytes f.inside in
     let content : next ≡ take used bytes ++ (text line ++ drop (length (text line)) (drop used bytes)) = e ∙ rw (length-drop used bytes, fits) refl in
     let split : next ≡ (take used bytes ++ text line) ++ drop (length (text line)) (drop used bytes) = content ∙ sym (append_assoc (take used bytes) (text line) _) in
     let seam : length (take used bytes ++ text line) ≡ used + n = length-append (take used bytes) (text line) ∙ rw (front, count) refl in
     let left : length buffer - (used + n) ≡ length buffer - used - length (text line) = omega (arith, count) in
-    let goes = said_goes ceiling schedule run said f.ready_now o s in
     let top : take (used + n) next ≡ take used bytes ++ text line = ap (take (used + n)) split ∙ take_at (take used bytes ++ text line) (drop (length (text line)) (drop used bytes)) (used + n) seam in
     let behind : drop (length (text line)) (drop used bytes) ≡ drop (used + n) buffer =
     ap (drop (length (text line))) f.rest ∙ drop-drop (length (text line)) used buffer ∙ ap (λ (m : ℕ). drop (used + m) buffer) (sym count) in
@@ -179,55 +159,21 @@ fills_line ceiling schedule buffer start run after used bytes next n said f o s 
     }
 
 -- each line said is one line fewer to say
-pub fewer_lines : (ceiling : ℕ) (schedule : List ℕ) (run after : Run) (said : Saying) → ready schedule run ≡ true → run.over ≡ false
-    → said ≡ saying_now schedule run → course ceiling schedule after ≡ course ceiling schedule said.run
+pub fewer_lines : (ceiling : ℕ) (schedule : List ℕ) (run after : Run) (said : Saying) → Goes ceiling schedule run (Some said) → course ceiling schedule after ≡ course ceiling schedule said.run
     → length (course ceiling schedule after).lines < length (course ceiling schedule run).lines
 unfolding says
-fewer_lines ceiling schedule run after said r o s same =
-    let one : length (course ceiling schedule run).lines ≡ suc (length (course ceiling schedule said.run).lines) = ap (λ (c : Course). length c.lines) (said_goes ceiling schedule run said r o s) in
+fewer_lines ceiling schedule run after said goes same =
+    let one : length (course ceiling schedule run).lines ≡ suc (length (course ceiling schedule said.run).lines) = ap (λ (c : Course). length c.lines) goes in
     let rest : length (course ceiling schedule after).lines ≡ length (course ceiling schedule said.run).lines = ap (λ (c : Course). length c.lines) same in
     omega (arith, one, rest)
 
 -- a line said leaves the end as it was; a run that is over is at its end
-pub same_end : (ceiling : ℕ) (schedule : List ℕ) (run after : Run) (said : Saying) → ready schedule run ≡ true → run.over ≡ false
-    → said ≡ saying_now schedule run → course ceiling schedule after ≡ course ceiling schedule said.run
+pub same_end : (ceiling : ℕ) (schedule : List ℕ) (run after : Run) (said : Saying) → Goes ceiling schedule run (Some said) → course ceiling schedule after ≡ course ceiling schedule said.run
     → (course ceiling schedule after).end ≡ (course ceiling schedule run).end
 unfolding says
-same_end ceiling schedule run after said r o s same =
-    ap (λ (c : Course). c.end) same ∙ sym (ap (λ (c : Course). c.end) (said_goes ceiling schedule run said r o s))
+same_end ceiling schedule run after said goes same =
+    ap (λ (c : Course). c.end) same ∙ sym (ap (λ (c : Course). c.end) goes)
 
 pub end_over : (ceiling : ℕ) (schedule : List ℕ) (run : Run) → run.over ≡ true → (course ceiling schedule run).end ≡ run
 unfolding silence
 end_over ceiling schedule run o = ap (λ (c : Course). c.end) (course_over ceiling schedule run o)
-
--- the loop counts the room that is left
-pub record Filling (ceiling : ℕ) (schedule buffer : List ℕ) (start run : Run) (size room : ℕ) (bytes : List ℕ) : Type 0 where
-  pub fills : Fills ceiling schedule buffer start run (size - room) bytes
-  pub sized : size ≡ length buffer
-  pub roomy : room ≤ size
-
-pub filling_none : (ceiling : ℕ) (schedule buffer : List ℕ) (run : Run) → ready schedule run ≡ true
-    → Filling ceiling schedule buffer run run (length buffer) (length buffer) buffer
-filling_none ceiling schedule buffer run r =
-    let none : length buffer - length buffer ≡ 0 = omega arith in
-    record { fills = rw none (fills_none ceiling schedule buffer run run refl r); sized = refl; roomy = omega arith }
-
-pub room_enough : (ceiling : ℕ) (schedule buffer : List ℕ) (start run : Run) (size room : ℕ) (bytes : List ℕ) (l : Line) (n : ℕ)
-    → Filling ceiling schedule buffer start run size room bytes → Answers bytes (size - room) l n → n ≤ room
-room_enough ceiling schedule buffer start run size room bytes l n f a =
-    let most : length bytes - (size - room) ≤ room = omega (arith, f.fills.long, f.sized, f.roomy) in
-    line_inside bytes (size - room) room l n most a
-
-pub filling_line : (ceiling : ℕ) (schedule buffer : List ℕ) (start run after : Run) (size room : ℕ) (bytes next : List ℕ) (n : ℕ) (said : Saying)
-    → Filling ceiling schedule buffer start run size room bytes → run.over ≡ false → said ≡ saying_now schedule run → Answers bytes (size - room) said.line n
-    → (n ≡ 0 → ⊥) → next ≡ take (size - room) bytes ++ buffer_after (drop (size - room) bytes) (text said.line)
-    → course ceiling schedule after ≡ course ceiling schedule said.run → ready schedule after ≡ true
-    → Filling ceiling schedule buffer start after size (room - n) next
-filling_line ceiling schedule buffer start run after size room bytes next n said f o s a z e same r =
-    let enough : n ≤ room = room_enough ceiling schedule buffer start run size room bytes said.line n f a in
-    let less : size - (room - n) ≡ size - room + n = omega (arith, f.roomy, enough) in
-    record {
-      fills = rw less (fills_line ceiling schedule buffer start run after (size - room) bytes next n said f.fills o s a z e same r);
-      sized = f.sized;
-      roomy = omega (arith, f.roomy);
-    }

@@ -1,4 +1,5 @@
 pub mod Ready
+pub mod Actions
 pub mod Numbers
 pub mod Fills
 pub mod Buffers

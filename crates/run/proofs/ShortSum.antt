@@ -1,4 +1,5 @@
 -- The schedule's sum is below 2 ^ 32: a file has at most 65,535 bytes, an item has three of them and at most 65,535 steps.
+use Rattle.std.specs.Prelude.{Option, Some, None, Result, Ok, Err}
 use Prim.Native.Nat.{ℕ, zero, suc, ◌+◌, ◌-◌, ◌*◌, ◌^◌, ◌≤◌, ◌<◌}
 use mathlib.Core.Path.{◌≡◌, refl, subst}
 use mathlib.Core.Bool.{Bool, true, false, cond}
@@ -9,15 +10,22 @@ use lib.ListN.{length, get_or, drop, length-drop}
 use lib.Seq.{get_or-drop}
 use borrow.Author.Tests.{eqb-true}
 use Rattle.items.specs.declared.Item.TheVariants.{Steps, Act}
-use Rattle.items.specs.declared.ItemAnswer.{ItemAnswer}
-use Rattle.items.specs.declared.ItemAnswer.TheVariants.{NoMore, Found, LeftOver, Bad}
+use Rattle.items.specs.declared.Item.{Item}
+use Rattle.items.specs.declared.ItemRefusal.{ItemRefusal}
+use Rattle.items.specs.declared.ItemRefusal.TheVariants.{LeftOver, Bad}
 use Rattle.nightfile.specs.File.{byte_at, two_at, file_number, schedule_start, schedule_body, if_accepted, schedule_part}
 use Rattle.nightfile.proofs.Laws.{accepted}
 use Rattle.items.specs.Items.{action_of, item_of, place_at, reading, read_at}
 use Rattle.course.specs.Whole.{and_others, items_within, items_from, steps_in}
-use Rattle.course.specs.Ready.{steps_of, steps_found}
 use Rattle.course.proofs.Found.{found_moves}
 use Rattle.run.specs.Outcomes.{schedule_sum}
+
+-- the steps of what is read
+abbrev steps_found : Result (Option Item) ItemRefusal → ℕ
+steps_found (Ok None) = 0
+steps_found (Ok (Some (Steps n))) = n
+steps_found (Ok (Some (Act action node lock))) = 0
+steps_found (Err refusal) = 0
 
 -- a schedule of bytes
 module _ (schedule : List ℕ) (bytes : (place : ℕ) → get_or schedule place 0 < 256) where
@@ -27,12 +35,12 @@ module _ (schedule : List ℕ) (bytes : (place : ℕ) → get_or schedule place 
   two_most at = omega (arith, bytes at, bytes (at + 1))
 
   found_most : (at : ℕ) → steps_found (read_at schedule at).answer ≤ 65535
-  unfolding read_at reading item_of steps_found steps_of
+  unfolding read_at reading item_of
   found_most at = go (leb (length schedule) at) (ltb (length schedule - at) 3) (ltb 3 (byte_at schedule at)) (eqb (byte_at schedule at) 0)
     where
       go : (past short bad steps : Bool)
-          → steps_found (cond past (reading NoMore at) (cond short (reading LeftOver at) (cond bad (reading (Bad (place_at at)) at)
-          (reading (Found (cond steps (Steps (two_at schedule (at + 1))) (Act (action_of (byte_at schedule at)) (byte_at schedule (at + 1)) (byte_at schedule (at + 2))))) (at + 3))))).answer
+          → steps_found (cond past (reading (Ok None) at) (cond short (reading (Err LeftOver) at) (cond bad (reading (Err (Bad (place_at at))) at)
+          (reading (Ok (Some (cond steps (Steps (two_at schedule (at + 1))) (Act (action_of (byte_at schedule at)) (byte_at schedule (at + 1)) (byte_at schedule (at + 2)))))) (at + 3))))).answer
           ≤ 65535
       go true short bad steps = omega arith
       go false true bad steps = omega arith
@@ -41,20 +49,19 @@ module _ (schedule : List ℕ) (bytes : (place : ℕ) → get_or schedule place 
       go false false false false = omega arith
 
   -- an item, and the others behind it
-  next_most : (n at : ℕ) (answer : ItemAnswer) → (read_at schedule at).answer ≡ answer
+  next_most : (n at : ℕ) (answer : Result (Option Item) ItemRefusal) → (read_at schedule at).answer ≡ answer
       → 3 * steps_in (items_within n schedule (read_at schedule at).at) ≤ 65535 * (length schedule - (read_at schedule at).at)
       → 3 * steps_in (and_others answer (items_within n schedule (read_at schedule at).at)) ≤ 65535 * (length schedule - at)
-  unfolding and_others steps_in steps_found steps_of
-  next_most n at NoMore e rest = omega arith
-  next_most n at (Found (Steps k)) e rest =
+  unfolding and_others steps_in
+  next_most n at (Ok None) e rest = omega arith
+  next_most n at (Ok (Some (Steps k))) e rest =
       let moves = found_moves schedule at (Steps k) e in
-      let most : k ≤ 65535 = subst (λ (a : ItemAnswer). steps_found a ≤ 65535) e (found_most at) in
+      let most : k ≤ 65535 = subst (λ a. steps_found a ≤ 65535) e (found_most at) in
       omega (arith, moves.0, moves.1, most, rest)
-  next_most n at (Found (Act action node lock)) e rest =
+  next_most n at (Ok (Some (Act action node lock))) e rest =
       let moves = found_moves schedule at (Act action node lock) e in
       omega (arith, moves.0, moves.1, rest)
-  next_most n at LeftOver e rest = omega arith
-  next_most n at (Bad place) e rest = omega arith
+  next_most n at (Err refusal) e rest = omega arith
 
   items_most : (n at : ℕ) → 3 * steps_in (items_within n schedule at) ≤ 65535 * (length schedule - at)
   unfolding items_within steps_in

@@ -1,37 +1,38 @@
 // A line of a run, written into a buffer behind those before it.
-ghost use Rattle.std.specs.Prelude.{◌≡◌, cond, ◌++◌, ◌-◌, ◌≤◌, leb, length, take, drop};
-ghost use Rattle.lines.specs.Line.{buffer_after};
-ghost use Rattle.wording.specs.Wording.{numbers_of, text};
+ghost use Rattle.std.specs.Prelude.{◌≡◌, cond, ◌++◌, ◌-◌, ◌≤◌, leb, length, take, drop, Some, None};
+ghost use Rattle.lines.specs.Line.{buffer_after, written_told, writing};
+ghost use Rattle.wording.specs.Wording.{text};
 
-use lines::Written;
+use lines::TooShort;
 use wording::Line;
 
-// How many numbers a line has.
-fn number_count(line: Line) -> usize
-    ensures { result ≡ length (numbers_of line) }
+// Writes a line at the buffer's start, or refuses a buffer that is shorter than the line and leaves it as it was.
+#[tactic(auto, unfolding(wording::specs::Wording::text, wording::specs::Wording::numbers_of, wording::specs::Wording::more_of))]
+fn write(line: Line, buffer: &mut [u8]) -> Result<usize, TooShort>
+    ensures result_value { written_told result ≡ writing buffer.old (text line) }
+    ensures buffer_after { buffer.new ≡ buffer_after buffer.old (text line) }
 {
-    if line.long {
-        return 4;
+    let Line {
+        steps,
+        letter,
+        first,
+        second,
+        more,
+    } = line;
+    match more {
+        None => lines::write_line(buffer, steps, letter, &[first, second]),
+        Some((third, fourth)) => {
+            lines::write_line(buffer, steps, letter, &[first, second, third, fourth])
+        }
     }
-    2
 }
 
-// Writes a line behind the bytes that are used, and answers with its length; 0 where it does not fit.
-pub(crate) fn put(line: Line, buffer: &mut [u8], used: usize) -> usize
+// Writes a line behind the bytes that are used, and answers with its length; nothing where it does not fit.
+#[tactic(auto, using(lines::proofs::Behind::length_told))]
+pub(crate) fn put(line: Line, buffer: &mut [u8], used: usize) -> Option<usize>
     requires { used ≤ length buffer.old }
-    ensures value { result ≡ cond (leb (length (text line)) (length buffer.old - used)) (length (text line)) 0 }
+    ensures value { result ≡ cond (leb (length (text line)) (length buffer.old - used)) (Some (length (text line))) None }
     ensures buffer_after { buffer.new ≡ take used buffer.old ++ buffer_after (drop used buffer.old) (text line) }
 {
-    let numbers = [line.first, line.second, line.third, line.fourth];
-    let count = number_count(line);
-    let written = lines::write_line(
-        &mut buffer[used..],
-        line.steps,
-        line.letter,
-        &numbers[..count],
-    );
-    match written {
-        Written::TooShort => 0,
-        Written::Length(length) => length,
-    }
+    write(line, &mut buffer[used..]).ok()
 }

@@ -1,67 +1,52 @@
-// The runs of a file: its text is read and gathered a piece at a time, so that a file of any length takes the same memory; and the words for what
-// is wrong in a text that is no run.
+// The runs of a file: its text is read and gathered a piece at a time, so that a file of any length takes the same memory; and which line of a text
+// is no part of a run.
 #![tactic(auto)]
 
-ghost use Rattle.std.specs.Prelude.{◌≡◌, None, IfSome};
+ghost use Rattle.std.specs.Prelude.{◌≡◌, IfOk, IfSome, OnOk, refl};
+ghost use Rattle.std.proofs.Common.{◌∙◌};
 ghost use Rattle.gather.specs.Gathering.{start_gather, after_all, rows_after_all};
+ghost use Rattle.runsfile.specs.Taken.{Taken, taken_none, taken_more};
 
+use files::Intake;
 use gather::{Fault, Gather};
-use std::io::{Error, Read, Result, Write};
+use std::io::{Read, Result, Write};
 
-// How the gathering stands at the end of the file, and the error that ended the reading, if one did.
-#[derive(Clone, Copy)]
-pub struct RunsRead {
-    pub state: Gather,
-    pub failed: Option<Error>,
+// The runs of a text, a piece at a time: how their gathering stands, and their rows.
+#[derive(Drop)]
+struct Runs<'a> {
+    state: Gather,
+    rows: &'a mut [u64],
 }
 
-// Reads to the end of the file. A proved loop has to end, and nothing says that a file does: so the turns are counted, up to a number that no
-// machine comes to; coming to it would count as an error. Of a reader whose bytes are known the promise says that, without an error, all of them are
-// gathered, in whatever pieces they came.
-pub fn read_runs<R: Read>(reader: &mut R, rows: &mut [u64]) -> RunsRead
-    ensures state { result.failed ≡ None → IfSome (R.remaining reader.old) (λ text. result.state ≡ after_all start_gather text) }
-    ensures rows_after { result.failed ≡ None → IfSome (R.remaining reader.old) (λ text. rows.new ≡ rows_after_all start_gather text rows.old) }
+impl Intake for Runs<'_> {
+    ghost taken = { λ before text after. (after.rows.ghost_name ≡ before.rows.ghost_name)
+        × Taken before.state before.rows.now text after.state after.rows.now };
+
+    fn take(&mut self, piece: &[u8]) {
+        self.state = gather::gather_text(self.state, piece, self.rows);
+    }
+
+    ghost taken_none = { λ runs. (refl, taken_none runs.state runs.rows.now) };
+
+    ghost taken_more = { λ before between after text more first second. (
+      second.0 ∙ first.0,
+      taken_more before.state between.state after.state before.rows.now between.rows.now after.rows.now text more first.1 second.1,
+    ) };
+}
+
+// Reads to the end of the file, and answers how the gathering then stands. Of a reader whose bytes are known the promise says that, without an error, all
+// of them are gathered, in whatever pieces they came.
+pub fn read_runs<R: Read>(reader: &mut R, rows: &mut [u64]) -> Result<Gather>
+    ensures state { IfOk result (λ state. IfSome (R.remaining reader.old) (λ text. state ≡ after_all start_gather text)) }
+    ensures rows_after { OnOk result (IfSome (R.remaining reader.old) (λ text. rows.new ≡ rows_after_all start_gather text rows.old)) }
 {
-    let mut buffer = [0u8; 65536];
-    let mut state = gather::start_gather();
-    for _ in 0..u64::MAX {
-        match reader.read(&mut buffer) {
-            Ok(0) => {
-                return RunsRead {
-                    state: state,
-                    failed: None,
-                };
-            }
-            Ok(count) => state = gather::gather_text(state, &buffer[..count], rows),
-            Err(error) => {
-                return RunsRead {
-                    state: state,
-                    failed: Some(error),
-                };
-            }
-        }
-    }
-    RunsRead {
-        state: state,
-        failed: Some(Error::other("the file does not end")),
-    }
-}
-
-// What is wrong, in words.
-fn words(fault: Fault) -> &'static str {
-    match fault {
-        Fault::Fine => "nothing is wrong",
-        Fault::NoLine => "not a line that the night program writes",
-        Fault::DeedBehindLock => "an action or an event behind an H line",
-        Fault::LockOutOfOrder => "an H line that is not the next lock's",
-        Fault::RefusalInside => "a Q line inside a run",
-        Fault::NoNewline => "the text ends inside a line",
-        Fault::NoLastLine => "the text ends inside a run, before its E or C line",
-    }
+    let state = gather::start_gather();
+    let mut runs = Runs { state, rows };
+    files::read_pieces(reader, &mut runs)?;
+    Ok(runs.state)
 }
 
 // Writes which line of the text is no part of a run, by its number from 1, and what is wrong.
 pub fn write_fault<W: Write>(out: &mut W, fault: Fault, line: u64) -> Result<()> {
-    let wrong = words(fault);
-    writeln!(out, "line {line}: {wrong}")
+    writeln!(out, "line {line}: {fault}")
 }

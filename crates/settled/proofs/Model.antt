@@ -70,6 +70,7 @@ turns =
 pub acts : Acts
 acts =
     record {
+      refusal_number = (λ a. tt, λ a x y d e. same);
       answer_number = (λ a. tt, λ a x y d e. same);
       answer = (λ a. tt, λ a x y d e p q. answer_apart x y (same p q));
       acted = (λ a. tt, λ a x y d e. same);

@@ -1,6 +1,6 @@
 -- The promises of the night file and of what runs it leave one answer and one content of a lent buffer.
 use Rattle.settled.specs.Night.{NightFile, Items, Lines, Wording, TallyOf, CourseOf, RunOf}
-use Rattle.settled.proofs.Apart.{same, file_apart, written_apart}
+use Rattle.settled.proofs.Apart.{same, written_apart}
 use Rattle.settled.proofs.Stands.{onward_settled}
 
 pub night_file : NightFile
@@ -8,8 +8,10 @@ night_file =
     record {
       file_number = (λ a. tt, λ a x y d e. same);
       file_place = (λ a. tt, λ a x y d e. same);
+      refusal_number = (λ a. tt, λ a x y d e. same);
+      refusal_place = (λ a. tt, λ a x y d e. same);
       two_at = λ κ. (λ a. tt, λ a x y d e. same);
-      test_file = λ κ. (λ a. tt, λ a x y d e p q. file_apart x y (same p q));
+      test_file = λ κ. (λ a. tt, λ a x y d e p q. same p.0 q.0);
       plan_part = λ κ. (λ a. tt, λ a x y d e p q i. (same p.0 q.0 i, same p.1 q.1 i));
       schedule_part = λ κ. (λ a. tt, λ a x y d e p q i. (same p.0 q.0 i, same p.1 q.1 i));
       read_plan = λ κ. (λ a. tt, λ a x y d e. same);
@@ -20,6 +22,8 @@ items =
     record {
       item_number = (λ a. tt, λ a x y d e. same);
       item_place = (λ a. tt, λ a x y d e. same);
+      refusal_number = (λ a. tt, λ a x y d e. same);
+      refusal_place = (λ a. tt, λ a x y d e. same);
       place_at = (λ a. tt, λ a x y d e. same);
       read = λ κ. (λ a. tt, λ a x y d e. same);
     }
@@ -28,6 +32,7 @@ pub lines : Lines
 lines =
     record {
       written_number = (λ a. tt, λ a x y d e. same);
+      too_short_number = (λ a. tt, λ a x y d e. same);
       write_line_buffer = λ κ a x y d e p q. same p.1 q.1;
       write_line = λ κ. (λ a. tt, λ a x y d e p q. written_apart x y (same p.0 q.0));
       write_row_buffer = λ κ a x y d e p q. same p.1 q.1;

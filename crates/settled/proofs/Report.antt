@@ -11,6 +11,8 @@ verdict_of =
       verdict_number = (λ a. tt, λ a x y d e. same);
       is_bad = (λ a. tt, λ a x y d e. same);
       is_looked_at = (λ a. tt, λ a x y d e. same);
+      verdict_is_bad = (λ a. tt, λ a x y d e. same);
+      verdict_is_looked_at = (λ a. tt, λ a x y d e. same);
     }
 
 pub morning : Morning

@@ -28,6 +28,7 @@ use Rattle.usernode.proofs.Node.sound.Reads as sound
 use Rattle.turns.proofs.turn_of.Reads as turn_of
 use Rattle.turns.proofs.event_letter.Reads as event_letter
 use Rattle.turns.proofs.event_lock.Reads as event_lock
+use Rattle.acts.proofs.ActionRefusal.number.Reads as action_refusal_number
 use Rattle.acts.proofs.answer_number.Reads as answer_number
 use Rattle.acts.proofs.answer.Reads as answer
 use Rattle.acts.proofs.acted.Reads as acted
@@ -109,6 +110,7 @@ pub record Turns : Type 0 where
 
 -- acts
 pub record Acts : Type 0 where
+  pub refusal_number : Settled (action_refusal_number.Asked tt) (action_refusal_number.Learnt tt)
   pub answer_number : Settled (answer_number.Asked tt) (answer_number.Learnt tt)
   pub answer : Settled (answer.Asked tt) (answer.Learnt tt)
   pub acted : Settled (acted.Asked tt) (acted.Learnt tt)

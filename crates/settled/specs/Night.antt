@@ -4,6 +4,8 @@ use Rattle.std.specs.Prelude.{ℕ, List}
 use contract.Lifetimes.{Lfts}
 use Rattle.nightfile.proofs.file_number.Reads as file_number
 use Rattle.nightfile.proofs.file_place.Reads as file_place
+use Rattle.nightfile.proofs.FileRefusal.number.Reads as file_refusal_number
+use Rattle.nightfile.proofs.FileRefusal.place.Reads as file_refusal_place
 use Rattle.nightfile.proofs.two_at.Reads as two_at
 use Rattle.nightfile.proofs.test_file.Reads as test_file
 use Rattle.nightfile.proofs.plan_part.Reads as plan_part
@@ -11,9 +13,12 @@ use Rattle.nightfile.proofs.schedule_part.Reads as schedule_part
 use Rattle.nightfile.proofs.read_plan.Reads as read_plan
 use Rattle.items.proofs.item_number.Reads as item_number
 use Rattle.items.proofs.item_place.Reads as item_place
+use Rattle.items.proofs.ItemRefusal.number.Reads as item_refusal_number
+use Rattle.items.proofs.ItemRefusal.place.Reads as item_refusal_place
 use Rattle.items.proofs.place_at.Reads as place_at
 use Rattle.items.proofs.Cursor.read.Reads as read
 use Rattle.lines.proofs.written_number.Reads as written_number
+use Rattle.lines.proofs.TooShort.number.Reads as too_short_number
 use Rattle.lines.proofs.write_line.Reads as write_line
 use Rattle.lines.proofs.write_row.Reads as write_row
 use Rattle.wording.proofs.action_line.Reads as action_line
@@ -37,6 +42,8 @@ use Rattle.settled.specs.Settled.{OneTold, Settled}
 pub record NightFile : Type 0 where
   pub file_number : Settled (file_number.Asked tt) (file_number.Learnt tt)
   pub file_place : Settled (file_place.Asked tt) (file_place.Learnt tt)
+  pub refusal_number : Settled (file_refusal_number.Asked tt) (file_refusal_number.Learnt tt)
+  pub refusal_place : Settled (file_refusal_place.Asked tt) (file_refusal_place.Learnt tt)
   pub two_at : (κ : Lfts 1) → Settled (two_at.Asked κ) (two_at.Learnt κ)
   pub test_file : (κ : Lfts 1) → Settled (test_file.Asked κ) (test_file.Learnt κ)
   pub plan_part : (κ : Lfts 1) → ((a : _) → plan_part.Asked κ a) × OneTold {T = List ℕ × (ℕ × ℕ)} (λ r e. (r.now, r.ref_ptr)) (plan_part.Learnt κ)
@@ -47,12 +54,15 @@ pub record NightFile : Type 0 where
 pub record Items : Type 0 where
   pub item_number : Settled (item_number.Asked tt) (item_number.Learnt tt)
   pub item_place : Settled (item_place.Asked tt) (item_place.Learnt tt)
+  pub refusal_number : Settled (item_refusal_number.Asked tt) (item_refusal_number.Learnt tt)
+  pub refusal_place : Settled (item_refusal_place.Asked tt) (item_refusal_place.Learnt tt)
   pub place_at : Settled (place_at.Asked tt) (place_at.Learnt tt)
   pub read : (κ : Lfts 1) → Settled (read.Asked κ) (read.Learnt κ)
 
 -- lines
 pub record Lines : Type 0 where
   pub written_number : Settled (written_number.Asked tt) (written_number.Learnt tt)
+  pub too_short_number : Settled (too_short_number.Asked tt) (too_short_number.Learnt tt)
   pub write_line_buffer : (κ : Lfts 2) → OneTold (λ r e. e.0.now) (write_line.Learnt κ)
   pub write_line : (κ : Lfts 2) → Settled (write_line.Asked κ) (write_line.Learnt κ)
   pub write_row_buffer : (κ : Lfts 2) → OneTold (λ r e. e.0.now) (write_row.Learnt κ)

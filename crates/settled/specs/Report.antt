@@ -7,6 +7,8 @@ use Rattle.verdict.proofs.judge.Reads as judge
 use Rattle.verdict.proofs.verdict_number.Reads as verdict_number
 use Rattle.verdict.proofs.is_bad.Reads as is_bad
 use Rattle.verdict.proofs.is_looked_at.Reads as is_looked_at
+use Rattle.verdict.proofs.Verdict.is_bad.Reads as verdict_is_bad
+use Rattle.verdict.proofs.Verdict.is_looked_at.Reads as verdict_is_looked_at
 use Rattle.morning.proofs.start_night.Reads as start_night
 use Rattle.morning.proofs.night_text.Reads as night_text
 use Rattle.morning.proofs.end_night.Reads as end_night
@@ -26,6 +28,8 @@ pub record VerdictOf : Type 0 where
   pub verdict_number : Settled (verdict_number.Asked tt) (verdict_number.Learnt tt)
   pub is_bad : Settled (is_bad.Asked tt) (is_bad.Learnt tt)
   pub is_looked_at : Settled (is_looked_at.Asked tt) (is_looked_at.Learnt tt)
+  pub verdict_is_bad : Settled (verdict_is_bad.Asked tt) (verdict_is_bad.Learnt tt)
+  pub verdict_is_looked_at : Settled (verdict_is_looked_at.Asked tt) (verdict_is_looked_at.Learnt tt)
 
 -- morning
 pub record Morning : Type 0 where

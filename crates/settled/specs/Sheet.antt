@@ -4,6 +4,7 @@ use contract.Lifetimes.{Lfts}
 use Rattle.linereader.proofs.kind_of.Reads as kind_of
 use Rattle.linereader.proofs.start_scan.Reads as start_scan
 use Rattle.linereader.proofs.scan_byte.Reads as scan_byte
+use Rattle.sums.proofs.SheetRefusal.number.Reads as refusal_number
 use Rattle.sums.proofs.sheet_number.Reads as sheet_number
 use Rattle.sums.proofs.make_sheet.Reads as make_sheet
 use Rattle.sums.proofs.write_sheet.Reads as write_sheet
@@ -25,6 +26,7 @@ pub record LineReader : Type 0 where
 
 -- sums
 pub record Sums : Type 0 where
+  pub refusal_number : Settled (refusal_number.Asked tt) (refusal_number.Learnt tt)
   pub sheet_number : Settled (sheet_number.Asked tt) (sheet_number.Learnt tt)
   pub make_sheet : (κ : Lfts 1) → Settled (make_sheet.Asked κ) (make_sheet.Learnt κ)
   pub write_sheet_buffer : (κ : Lfts 1) → OneTold (λ r e. e.1.0.now) (write_sheet.Learnt κ)

@@ -3,8 +3,8 @@
 // made by another model of 02's item 13.
 #![tactic(auto)]
 
+use casefiles::Case;
 use gather::Gather;
-use lines::Written;
 use std::env::Env;
 use std::io;
 use std::io::Result;
@@ -16,73 +16,63 @@ const ROOM: usize = 77794;
 // Whether the sheet of a text is written as expected.
 fn sheet_agrees(state: Gather, rows: &[u64], expected: &[u8]) -> bool {
     let mut buffer = [0u8; 65536];
-    match sums::write_sheet(gather::sheet_of(state, rows), &mut buffer) {
-        Written::TooShort => false,
-        Written::Length(length) => check::same(&buffer[..length], expected),
-    }
+    let written = sums::write_sheet(gather::sheet_of(state, rows), &mut buffer);
+    written.is_ok_and(|length| buffer.get(..length) == Some(expected))
 }
 
 // A text that is a text of runs: whether its sheet is the one expected. An expectation that fills its buffer may have more, and differs.
-fn runs_agree<R: Env + Files>(rt: &R, argument: usize, state: Gather, rows: &[u64]) -> bool {
+fn runs_agree<R: Env + Files>(case: &Case<'_, R>, state: Gather, rows: &[u64]) -> bool {
     let mut buffer = [0u8; 65536];
-    let expected = casefiles::read_case(rt, argument, b".out", &mut buffer);
-    if expected.failed.is_some() {
-        return false;
-    }
-    let length = expected.length;
-    if length == buffer.len() {
-        return false;
-    }
-    sheet_agrees(state, rows, &buffer[..length])
-}
-
-// Whether a text that is no run is expected.
-fn fault_expected<R: Env + Files>(rt: &R, argument: usize) -> bool {
-    casefiles::open_case(rt, argument, b".bad").is_ok()
+    let expected = case.read(b".out", &mut buffer);
+    expected.failed.is_none()
+        && expected.length < buffer.len()
+        && sheet_agrees(state, rows, &buffer[..expected.length])
 }
 
 // Shows how a case ended whose text has been read, and answers with it; of a text that is no run also the line that is named.
 fn show_read<R: Env + Files + Print>(
-    rt: &R,
-    argument: usize,
+    case: &Case<'_, R>,
     state: Gather,
     rows: &[u64],
 ) -> Result<bool> {
-    let fault = gather::fault_of(state);
-    if gather::is_fine(fault) {
-        let agrees = runs_agree(rt, argument, state, rows);
-        casefiles::show_result(rt, argument, agrees)?;
+    let Some(fault) = gather::fault_of(state) else {
+        let agrees = runs_agree(case, state, rows);
+        case.show(agrees)?;
         return Ok(agrees);
-    }
-    let expected = fault_expected(rt, argument);
-    casefiles::show_result(rt, argument, expected)?;
-    print!(rt; "    ")?;
-    runsfile::write_fault(&mut io::writer(rt), fault, gather::line_number(state))?;
+    };
+    let expected = case.open(b".bad").is_ok();
+    case.show(expected)?;
+    print!(case.rt; "    ")?;
+    runsfile::write_fault(&mut io::writer(case.rt), fault, gather::line_number(state))?;
     Ok(expected)
 }
 
-// Shows how one case ended, and answers with it. What cannot be opened or read differs.
-fn show_case<R: Env + Files + Print>(rt: &R, argument: usize) -> Result<bool> {
-    let mut rows = [0u64; ROOM];
-    if let Ok(mut file) = casefiles::open_case(rt, argument, b".txt") {
-        let read = runsfile::read_runs(&mut file, &mut rows);
-        if read.failed.is_none() {
-            return show_read(rt, argument, read.state, &rows);
-        }
-    }
-    casefiles::show_result(rt, argument, false)?;
-    Ok(false)
+// Reads the text of a case.
+fn read_text<R: Env + Files>(case: &Case<'_, R>, rows: &mut [u64]) -> Result<Gather> {
+    let mut file = case.open(b".txt")?;
+    runsfile::read_runs(&mut file, rows)
 }
 
+// Shows how one case ended, and answers with it. What cannot be opened or read differs.
+fn show_case<R: Env + Files + Print>(case: &Case<'_, R>) -> Result<bool> {
+    let mut rows = [0u64; ROOM];
+    match read_text(case, &mut rows) {
+        Ok(state) => show_read(case, state, &rows),
+        Err(_) => {
+            case.show(false)?;
+            Ok(false)
+        }
+    }
+}
+
+// As in cases: one function over a closure would be a new public one with nothing to promise.
 fn main(rt: HostRuntime) -> Result<()> {
     let count = casefiles::arg_count(&rt);
-    let mut agreed: usize = 0;
-    let mut tried: usize = 0;
+    let mut agreed = 0;
     for argument in 1..count {
-        if show_case(&rt, argument)? {
+        if show_case(&Case { rt: &rt, argument })? {
             agreed += 1;
         }
-        tried += 1;
     }
-    casefiles::show_total(&rt, agreed, tried)
+    casefiles::show_total(&rt, agreed, count.saturating_sub(1))
 }

@@ -4,11 +4,11 @@ use mathlib.Core.Path.{◌≡◌, refl, ap, ◌∙◌}
 use mathlib.Core.Bool.{Bool, true, false, not}
 use mathlib.Core.List.{List}
 use native.Mathlib.Omega.{arith}
-use lib.ListN.{length, get_or}
+use lib.ListN.{length, get_or, get_or-map}
 use borrow.Author.Tests.{ltb-false, eq-eqb}
 use Rattle.lists.specs.Refusal.{refused_if}
-use Rattle.sums.specs.Sheet.{steps_place, busy_place, grants_place, failed_place, run_count, sheet_locks, too_many_runs, locks_right, runs_in_range, sheet_number, over_runs, share_of, sheet_of_first, sheet_of, making}
-use Rattle.sums.proofs.Laws.{column-at}
+use Rattle.sums.specs.Sheet.{steps_place, busy_place, grants_place, failed_place, run_count, sheet_locks, too_many_runs, locks_right, runs_in_range, sheet_number, over_runs, share_of, lock_row, empty_row, busy_of, grants_of, failed_of, shares_of, sheet_of, making}
+use Rattle.sums.proofs.Laws.{row-at}
 use Rattle.sums.proofs.Ranges.{locks_few}
 
 -- none of 24, 25, 26: each of the three tests
@@ -41,31 +41,29 @@ module _ (numbers : List ℕ) (none : sheet_number numbers ≡ 0) where
   made = simp (eq-eqb (sheet_number numbers) 0 none)
 
   pub locks_told : (making numbers).sheet.locks ≡ sheet_locks numbers
-  unfolding sheet_of sheet_of_first over_runs
+  unfolding sheet_of
   locks_told = ap (λ s. s.locks) made
 
--- at each lock the sheet's numbers
+-- at each lock the sheet has its row
 module _ (numbers : List ℕ) (none : sheet_number numbers ≡ 0) (lock : ℕ) (below : lock < sheet_locks numbers) where
-  room : lock < 64
-  room = omega (arith, few numbers none)
+  row_there : get_or (making numbers).sheet.rows lock empty_row ≡ lock_row numbers lock
+  unfolding sheet_of
+  row_there =
+      ap (λ s. get_or s.rows lock empty_row) (made numbers none)
+      ∙ row-at (lock_row numbers) (sheet_locks numbers) lock below (omega (arith, few numbers none))
 
-  pub busy-at : get_or (making numbers).sheet.busy lock 0 ≡ over_runs numbers (busy_place + lock)
-  unfolding sheet_of sheet_of_first over_runs
-  busy-at =
-      ap (λ s. get_or s.busy lock 0) (made numbers none) ∙ column-at (λ lock. over_runs numbers (busy_place + lock)) (sheet_locks numbers) lock below room
+  pub busy-at : get_or (busy_of (making numbers).sheet) lock 0 ≡ over_runs numbers (busy_place + lock)
+  unfolding lock_row
+  busy-at = get_or-map (λ row. row.busy) (making numbers).sheet.rows lock empty_row ∙ ap (λ row. row.busy) row_there
 
-  pub grants_at : get_or (making numbers).sheet.grants lock 0 ≡ over_runs numbers (grants_place + lock)
-  unfolding sheet_of sheet_of_first over_runs
-  grants_at =
-      ap (λ s. get_or s.grants lock 0) (made numbers none) ∙ column-at (λ lock. over_runs numbers (grants_place + lock)) (sheet_locks numbers) lock below room
+  pub grants_at : get_or (grants_of (making numbers).sheet) lock 0 ≡ over_runs numbers (grants_place + lock)
+  unfolding lock_row
+  grants_at = get_or-map (λ row. row.grants) (making numbers).sheet.rows lock empty_row ∙ ap (λ row. row.grants) row_there
 
-  pub failed_at : get_or (making numbers).sheet.failed lock 0 ≡ over_runs numbers (failed_place + lock)
-  unfolding sheet_of sheet_of_first over_runs
-  failed_at =
-      ap (λ s. get_or s.failed lock 0) (made numbers none) ∙ column-at (λ lock. over_runs numbers (failed_place + lock)) (sheet_locks numbers) lock below room
+  pub failed_at : get_or (failed_of (making numbers).sheet) lock 0 ≡ over_runs numbers (failed_place + lock)
+  unfolding lock_row
+  failed_at = get_or-map (λ row. row.failed) (making numbers).sheet.rows lock empty_row ∙ ap (λ row. row.failed) row_there
 
-  pub share_at : get_or (making numbers).sheet.share lock 0 ≡ share_of (over_runs numbers (busy_place + lock)) (over_runs numbers steps_place)
-  unfolding sheet_of sheet_of_first over_runs
-  share_at =
-      ap (λ s. get_or s.share lock 0) (made numbers none)
-      ∙ column-at (λ lock. share_of (over_runs numbers (busy_place + lock)) (over_runs numbers steps_place)) (sheet_locks numbers) lock below room
+  pub share_at : get_or (shares_of (making numbers).sheet) lock 0 ≡ share_of (over_runs numbers (busy_place + lock)) (over_runs numbers steps_place)
+  unfolding lock_row
+  share_at = get_or-map (λ row. row.share) (making numbers).sheet.rows lock empty_row ∙ ap (λ row. row.share) row_there

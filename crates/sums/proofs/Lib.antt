@@ -1,7 +1,6 @@
 pub mod Laws
 pub mod Written
 pub mod Ranges
-pub mod Made
 pub mod Accepted
 pub mod Order
 pub mod Theorems

@@ -14,10 +14,10 @@ use Rattle.lists.proofs.Laws.{and_left, and_right, every-at, every_same}
 use Rattle.lists.proofs.Tests.{and_both, at_most_or_above}
 use Rattle.lists.proofs.Exchanged.{Exchanged, total_exchanged, each_exchanged, every_exchanged, both_ways}
 use Rattle.sums.specs.declared.Sheet.{Sheet}
-use Rattle.sums.specs.Sheet.{run_width, steps_place, locks_place, busy_place, grants_place, failed_place, run_count, number_at, sheet_locks, too_many_runs, locks_alike, locks_right, lock_in_range, run_in_range, runs_in_range, sheet_number, over_runs, share_of, column, sheet_of_first, sheet_of, empty_sheet, making}
+use Rattle.sums.specs.Sheet.{run_width, steps_place, locks_place, busy_place, grants_place, failed_place, run_count, number_at, sheet_locks, too_many_runs, locks_alike, locks_right, lock_in_range, run_in_range, runs_in_range, sheet_number, over_runs, share_of, lock_row, rows_of, sheet_of, empty_sheet, making}
 use Rattle.sums.specs.Theorems.{SameRun, ChangedPlaces, Reordered}
 use Rattle.sums.specs.Theorems.Reordered.{same, changed, then}
-use Rattle.sums.proofs.Laws.{column_same}
+use Rattle.sums.proofs.Laws.{rows_same}
 use Rattle.sums.proofs.Ranges.{locks_few, run_locks}
 use Rattle.sums.proofs.Accepted.{tests}
 
@@ -199,23 +199,20 @@ module _ (one other : List ℕ) (x : ChangedPlaces one other) where
       ∙ ap (every (run_in_range other)) (count one other x)
 
   -- the same sheet is made
+  row_same : locks_right one ≡ true → (lock : ℕ) → lock < sheet_locks one → lock_row one lock ≡ lock_row other lock
+  unfolding lock_row
+  row_same e lock below =
+      let busy = busy_same one other x e lock below in
+      let grants = grants_same one other x e lock below in
+      let failed = failed_same one other x e lock below in
+      λ i. record { busy = busy i; grants = grants i; failed = failed i; share = share_of (busy i) (steps_same one other x i) }
+
   sheet_same : locks_right one ≡ true → sheet_of one ≡ sheet_of other
-  unfolding sheet_of sheet_of_first over_runs
+  unfolding sheet_of
   sheet_same e =
       let locks = sym (locks_same one other x e) in
-      let busy = column_same (λ lock. over_runs one (busy_place + lock)) (λ lock. over_runs other (busy_place + lock)) (sheet_locks one) (busy_same one other x e) in
-      let grants = column_same (λ lock. over_runs one (grants_place + lock)) (λ lock. over_runs other (grants_place + lock)) (sheet_locks one) (grants_same one other x e) in
-      let failed = column_same (λ lock. over_runs one (failed_place + lock)) (λ lock. over_runs other (failed_place + lock)) (sheet_locks one) (failed_same one other x e) in
-      let share =
-      column_same (λ lock. share_of (over_runs one (busy_place + lock)) (over_runs one steps_place)) (λ lock. share_of (over_runs other (busy_place + lock)) (over_runs other steps_place)) (sheet_locks one)
-      (λ lock below i. share_of (busy_same one other x e lock below i) (steps_same one other x i)) in
-      λ i. record {
-        locks = locks i;
-        busy = (busy ∙ ap (column (λ lock. over_runs other (busy_place + lock))) locks) i;
-        grants = (grants ∙ ap (column (λ lock. over_runs other (grants_place + lock))) locks) i;
-        failed = (failed ∙ ap (column (λ lock. over_runs other (failed_place + lock))) locks) i;
-        share = (share ∙ ap (column (λ lock. share_of (over_runs other (busy_place + lock)) (over_runs other steps_place))) locks) i;
-      }
+      let rows = rows_same (lock_row one) (lock_row other) (sheet_locks one) (row_same e) in
+      λ i. record { locks = locks i; rows = (rows ∙ ap (rows_of (lock_row other)) locks) i }
 
   changed_same : making one ≡ making other
   changed_same = told_same one other x.long right_same range_same sheet_same

@@ -1,6 +1,6 @@
 -- What the tests of the runs give: the locks of runs that are not refused with 25, and the bounds of those that are not refused with 26.
 use Prim.Native.Nat.{ℕ, ◌+◌, ◌*◌, ◌%◌, ◌≤◌, ◌<◌}
-use mathlib.Core.Path.{◌≡◌, refl, sym}
+use mathlib.Core.Path.{◌≡◌}
 use mathlib.Core.Bool.{Bool, true, ◌&&◌}
 use mathlib.Core.List.{List}
 use mathlib.Core.Logic.{⊎_elim}
@@ -9,9 +9,9 @@ use lib.Dec.{eqb, ltb, leb}
 use lib.ListN.{length, get_or-eq_default}
 use borrow.Author.Tests.{leb-true, eqb-true}
 use Rattle.lists.specs.Loops.{every}
-use Rattle.lists.proofs.Laws.{and_left, and_right, every-at}
-use Rattle.lists.proofs.Tests.{by_test, at_most_or_above}
-use Rattle.sums.specs.Sheet.{steps_place, locks_place, busy_place, grants_place, failed_place, run_count, number_at, sheet_locks, locks_alike, locks_right, lock_in_range, run_in_range, locks_of_first}
+use Rattle.lists.proofs.Laws.{and_left, and_right, every-at, total_at_most}
+use Rattle.lists.proofs.Tests.{at_most_or_above}
+use Rattle.sums.specs.Sheet.{steps_place, locks_place, busy_place, grants_place, failed_place, run_count, number_at, sheet_locks, locks_alike, locks_right, lock_in_range, run_in_range, runs_in_range, over_runs, Summable}
 
 -- ---- 25 is not given
 
@@ -57,21 +57,6 @@ locks_few numbers e =
     (λ some. first_locks numbers (run_alike numbers 0 e some))
     (at_most_or_above (run_count numbers) 0)
 
--- ---- the locks of the first runs
-
--- at most the sheet's
-pub first_few : (numbers : List ℕ) (runs : ℕ) → locks_of_first numbers runs ≤ sheet_locks numbers
-unfolding locks_of_first
-first_few numbers runs = by_test (λ (locks : ℕ). locks ≤ sheet_locks numbers) (eqb runs 0) (λ e. omega arith) (λ e. omega arith)
-
--- those of all runs are the sheet's
-pub first_all : (numbers : List ℕ) → locks_right numbers ≡ true → locks_of_first numbers (run_count numbers) ≡ sheet_locks numbers
-unfolding locks_of_first
-first_all numbers right =
-    by_test (λ (locks : ℕ). locks ≡ sheet_locks numbers) (eqb (run_count numbers) 0)
-    (λ e. sym (no_run numbers right (omega (arith, eqb-true (run_count numbers) 0 e))))
-    (λ e. refl)
-
 -- ---- 26 is not given
 
 pub record LockFits (numbers : List ℕ) (run lock : ℕ) : Type 0 where
@@ -106,17 +91,27 @@ module _ (numbers : List ℕ) {runs : ℕ} (right : every (run_in_range numbers)
       lock_fits_by numbers run lock
       (every-at (lock_in_range numbers run) (sheet_locks numbers) lock (and_right (leb (number_at numbers steps_place run) 1000000) (every (lock_in_range numbers run) (sheet_locks numbers)) run_right) l)
 
--- ---- so that no sum overflows: each number that is summed is at most 64,000,000
+-- ---- so that no sum overflows: each number that is summed is at most 64,000,000, and there are at most 400 runs
 
-module _ (numbers : List ℕ) {runs : ℕ} (right : every (run_in_range numbers) runs ≡ true) where
-  pub steps_small : (run : ℕ) → run < runs → number_at numbers 0 run ≤ 64000000
-  steps_small run below = omega (arith, run_steps numbers right run below)
+module _ (numbers : List ℕ) (right : Summable numbers) where
+  in_range : every (run_in_range numbers) (run_count numbers) ≡ true
+  unfolding runs_in_range
+  in_range = right.2
 
-  pub busy_small : (lock run : ℕ) → lock < sheet_locks numbers → run < runs → number_at numbers (2 + lock) run ≤ 64000000
-  busy_small lock run l below = omega (arith, run_steps numbers right run below, (lock_fits numbers right run below lock l).busy)
+  pub steps_small : (run : ℕ) → run < run_count numbers → number_at numbers 0 run ≤ 64000000
+  steps_small run below = omega (arith, run_steps numbers in_range run below)
 
-  pub grants_small : (lock run : ℕ) → lock < sheet_locks numbers → run < runs → number_at numbers (66 + lock) run ≤ 64000000
-  grants_small lock run l below = omega (arith, run_steps numbers right run below, (lock_fits numbers right run below lock l).grants)
+  -- busy steps, grants, N events of a lock
+  module _ (lock : ℕ) (there : lock < sheet_locks numbers) where
+    pub busy_small : (run : ℕ) → run < run_count numbers → number_at numbers (2 + lock) run ≤ 64000000
+    busy_small run below = omega (arith, run_steps numbers in_range run below, (lock_fits numbers in_range run below lock there).busy)
 
-  pub failed_small : (lock run : ℕ) → lock < sheet_locks numbers → run < runs → number_at numbers (130 + lock) run ≤ 64000000
-  failed_small lock run l below = omega (arith, run_steps numbers right run below, (lock_fits numbers right run below lock l).failed)
+    pub grants_small : (run : ℕ) → run < run_count numbers → number_at numbers (66 + lock) run ≤ 64000000
+    grants_small run below = omega (arith, run_steps numbers in_range run below, (lock_fits numbers in_range run below lock there).grants)
+
+    pub failed_small : (run : ℕ) → run < run_count numbers → number_at numbers (130 + lock) run ≤ 64000000
+    failed_small run below = omega (arith, run_steps numbers in_range run below, (lock_fits numbers in_range run below lock there).failed)
+
+    pub busy-sum_small : over_runs numbers (2 + lock) ≤ 25600000000
+    unfolding over_runs
+    busy-sum_small = omega (arith, right.0, total_at_most (number_at numbers (2 + lock)) 64000000 (run_count numbers) busy_small)

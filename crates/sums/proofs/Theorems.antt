@@ -1,24 +1,26 @@
 -- The statements of specs/Theorems, proved.
+use Rattle.std.specs.Prelude.{Ok, Err}
 use Prim.Native.Nat.{ℕ, ◌+◌, ◌*◌, ◌/◌, ◌≤◌, ◌<◌, min}
-use mathlib.Core.Path.{◌≡◌, refl, ◌∙◌}
+use mathlib.Core.Path.{◌≡◌, refl, ap, ◌∙◌}
 use mathlib.Core.Bool.{true}
 use mathlib.Core.List.{List, [], ◌∷◌}
 use native.Mathlib.Nat.{div-mul-le_self, lt-mul-div-succ, div-le_of_le-mul, mul_comm, zero-mul}
 use native.Mathlib.Omega.{arith}
 use lib.Dec.{eqb, lit≤}
-use lib.ListN.{length}
+use lib.ListN.{get_or, get_or-map}
 use borrow.Author.Tests.{eq-eqb, ne_eqb}
 use Rattle.lists.specs.Loops.{every, in_order}
 use Rattle.lists.specs.Refusal.{refused_if}
 use Rattle.lists.proofs.Laws.{total_at_most, total-at_most-times}
 use Rattle.lists.proofs.Tests.{by_test}
 use Rattle.lists.proofs.Places.{place_default}
-use Rattle.lines.specs.Line.{line}
 use Rattle.lines.proofs.Laws.{line-length_most}
-use Rattle.sums.specs.Sheet.{steps_place, busy_place, grants_place, failed_place, run_count, number_at, sheet_locks, too_many_runs, locks_right, run_in_range, runs_in_range, sheet_number, over_runs, share_of, column, empty_sheet, sheet_of_first, sheet_of, sheet_answer_number, making}
-use Rattle.sums.specs.Text.{sheet_rows, sheet_text}
+use Rattle.sums.specs.declared.Sheet.{Sheet}
+use Rattle.sums.specs.declared.SheetRow.{SheetRow}
+use Rattle.sums.specs.Sheet.{steps_place, busy_place, grants_place, failed_place, run_count, number_at, sheet_locks, too_many_runs, locks_right, run_in_range, runs_in_range, sheet_number, over_runs, share_of, lock_row, empty_row, rows_of, empty_sheet, sheet_of, refusal_number, making}
+use Rattle.sums.specs.Text.{sheet_text}
 use Rattle.sums.specs.Theorems.{TheSumsOfTheRuns, NothingAt, NothingBehindTheLocks, TheShareIsRoundedDown, NoRunsNoSheet, RefusedIsEmpty, TheOrderDoesNotMatter, NothingElseIsRead, NothingWraps, RoomForEverySheet}
-use Rattle.sums.proofs.Laws.{column_behind}
+use Rattle.sums.proofs.Laws.{row_behind}
 use Rattle.sums.proofs.Ranges.{run_steps, lock_fits}
 use Rattle.sums.proofs.Accepted.{tests, runs_few, locks_told, busy-at, grants_at, failed_at, share_at}
 use Rattle.sums.proofs.Written.{rows_most}
@@ -38,21 +40,23 @@ the_sums_of_the_runs numbers lock none below =
 
 -- ---- behind the locks
 
-nothing_in_sheet : (numbers : List ℕ) (lock : ℕ) → (sheet_of numbers).locks ≤ lock → NothingAt (sheet_of numbers) lock
-unfolding sheet_of sheet_of_first
-nothing_in_sheet numbers lock above =
+-- an empty row has nothing
+nothing_in_row : (sheet : Sheet) (lock : ℕ) → get_or sheet.rows lock empty_row ≡ empty_row → NothingAt sheet lock
+nothing_in_row sheet lock e =
     record {
-      busy = column_behind _ (sheet_locks numbers) lock above;
-      grants = column_behind _ (sheet_locks numbers) lock above;
-      failed = column_behind _ (sheet_locks numbers) lock above;
-      share = column_behind _ (sheet_locks numbers) lock above;
+      busy = get_or-map (λ row. row.busy) sheet.rows lock empty_row ∙ ap (λ row. row.busy) e;
+      grants = get_or-map (λ row. row.grants) sheet.rows lock empty_row ∙ ap (λ row. row.grants) e;
+      failed = get_or-map (λ row. row.failed) sheet.rows lock empty_row ∙ ap (λ row. row.failed) e;
+      share = get_or-map (λ row. row.share) sheet.rows lock empty_row ∙ ap (λ row. row.share) e;
     }
+
+nothing_in_sheet : (numbers : List ℕ) (lock : ℕ) → (sheet_of numbers).locks ≤ lock → NothingAt (sheet_of numbers) lock
+unfolding sheet_of
+nothing_in_sheet numbers lock above = nothing_in_row (sheet_of numbers) lock (row_behind (lock_row numbers) (sheet_locks numbers) lock above)
 
 nothing_in_empty : (lock : ℕ) → NothingAt empty_sheet lock
 unfolding empty_sheet
-nothing_in_empty lock =
-    let none = place_default (λ (n : ℕ). n ≡ 0) 0 64 lock refl in
-    record { busy = none; grants = none; failed = none; share = none }
+nothing_in_empty lock = nothing_in_row empty_sheet lock (place_default (λ (r : SheetRow). r ≡ empty_row) empty_row 64 lock refl)
 
 pub nothing_behind_the_locks : NothingBehindTheLocks
 unfolding making
@@ -99,7 +103,7 @@ the_share_is_rounded_down numbers lock none below =
 -- ---- no runs, and a refusal
 
 pub no_runs_no_sheet : NoRunsNoSheet
-unfolding making sheet_number too_many_runs locks_right runs_in_range refused_if run_count every sheet_of sheet_of_first sheet_locks number_at column in_order empty_sheet
+unfolding making sheet_number too_many_runs locks_right runs_in_range refused_if run_count every sheet_of sheet_locks number_at rows_of in_order empty_sheet
 no_runs_no_sheet = refl
 
 pub refused_is_empty : RefusedIsEmpty
@@ -158,7 +162,5 @@ nothing_wraps numbers lock none below =
 
 pub room_for_every_sheet : RoomForEverySheet
 unfolding sheet_text
-room_for_every_sheet made =
-    let rows : length (sheet_rows made.sheet (min made.sheet.locks 64)) ≤ 6720 = omega (arith, rows_most made.sheet (min made.sheet.locks 64)) in
-    let refusal : length (line 0 81 (sheet_answer_number made.answer ∷ 0 ∷ [])) ≤ 6720 = omega (arith, line-length_most 0 81 (sheet_answer_number made.answer ∷ 0 ∷ []) (lit≤ tt)) in
-    by_test (λ (text : List ℕ). length text ≤ 6720) (eqb (sheet_answer_number made.answer) 0) (λ e. rows) (λ e. refusal)
+room_for_every_sheet (Ok sheet) = omega (arith, rows_most sheet (min sheet.locks 64))
+room_for_every_sheet (Err refusal) = omega (arith, line-length_most 0 81 (refusal_number refusal ∷ 0 ∷ []) (lit≤ tt))

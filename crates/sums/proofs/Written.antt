@@ -1,30 +1,34 @@
 -- The rows of a sheet as they are written: their lengths, and the loop that puts one behind the other.
-use Prim.Native.Nat.{ℕ, zero, suc, ◌+◌, ◌-◌, ◌*◌, ◌≤◌, min}
+use Rattle.std.specs.Prelude.{Result, Ok}
+use Prim.Native.Nat.{ℕ, zero, suc, ◌+◌, ◌-◌, ◌*◌, ◌≤◌}
 use mathlib.Core.Path.{◌≡◌, refl, sym, ap, ◌∙◌}
 use mathlib.Core.Bool.{Bool, true, cond}
 use mathlib.Core.List.{List, [], ◌∷◌, ◌++◌, append_assoc}
 use native.Mathlib.Omega.{arith}
 use lib.Dec.{leb, lit≤}
-use lib.ListN.{length, take, drop, length-append, length-drop}
+use lib.ListN.{length, get_or, get_or-map, take, drop, length-append, length-drop}
 use lib.Seq.{take_at, drop_at, drop-drop}
-use borrow.Author.Tests.{le-leb, eq-eqb, ne_eqb}
+use borrow.Author.Tests.{le-leb}
 use Rattle.lists.specs.Loops.{in_order}
 use Rattle.lists.proofs.Laws.{in_order_none, in_order-more}
-use Rattle.lines.specs.Line.{line, row, buffer_after, writing}
+use Rattle.lines.specs.Line.{line, row, buffer_after, writing, written_told}
+use Rattle.lines.specs.declared.TooShort.{TooShort}
+use Rattle.lines.proofs.Behind.{text_written}
 use Rattle.lines.proofs.Laws.{line-length_most, row-length_most}
 use Rattle.sums.specs.declared.Sheet.{Sheet}
-use Rattle.sums.specs.declared.MadeSheet.{MadeSheet}
-use Rattle.sums.specs.Sheet.{sheet_answer_number}
+use Rattle.sums.specs.declared.SheetRow.{SheetRow}
+use Rattle.sums.specs.declared.SheetRefusal.{SheetRefusal}
+use Rattle.sums.specs.Sheet.{empty_row}
 use Rattle.sums.specs.Text.{sheet_row, sheet_rows, sheet_text, sheet_writing, buffer_after_sheet}
 
--- the length of a lock's row, told where there is room for any row
-pub row_told : (buffer : List ℕ) (used lock busy grants failed share : ℕ) → used + 105 ≤ length buffer
-    → cond (leb (length (row lock (busy ∷ grants ∷ failed ∷ share ∷ []))) (length buffer - used)) (length (row lock (busy ∷ grants ∷ failed ∷ share ∷ []))) 0
-    ≡ length (row lock (busy ∷ grants ∷ failed ∷ share ∷ []))
-row_told buffer used lock busy grants failed share room =
-    let text : List ℕ = row lock (busy ∷ grants ∷ failed ∷ share ∷ []) in
-    let short : length text ≤ length buffer - used = omega (arith, row-length_most lock (busy ∷ grants ∷ failed ∷ share ∷ []) (lit≤ tt)) in
-    simp (le-leb (length text) (length buffer - used) short)
+-- a lock's row is written where there is room for any row
+pub row_written : (w : Result ℕ TooShort) (buffer : List ℕ) (used lock : ℕ) (n : SheetRow) → used + 105 ≤ length buffer
+    → written_told w ≡ writing (take (length buffer - used) (drop used buffer)) (row lock (n.busy ∷ n.grants ∷ n.failed ∷ n.share ∷ []))
+    → w ≡ Ok (length (row lock (n.busy ∷ n.grants ∷ n.failed ∷ n.share ∷ [])))
+row_written w buffer used lock n room told =
+    let text : List ℕ = row lock (n.busy ∷ n.grants ∷ n.failed ∷ n.share ∷ []) in
+    let fits : used + length text ≤ length buffer = omega (arith, row-length_most lock (n.busy ∷ n.grants ∷ n.failed ∷ n.share ∷ []) (lit≤ tt)) in
+    text_written w buffer text used fits told
 
 -- a lock's row is short
 pub sheet-row_most : (sheet : Sheet) (lock : ℕ) → length (sheet_row sheet lock) ≤ 105
@@ -81,20 +85,23 @@ written_row sheet buffer lock used bytes next n so room told e long =
       long = long;
     }
 
+-- the row that is read of the sheet
+pub sheet-row_read : (sheet : Sheet) (lock : ℕ) {n : SheetRow} → n ≡ get_or sheet.rows lock empty_row
+    → sheet_row sheet lock ≡ row lock (n.busy ∷ n.grants ∷ n.failed ∷ n.share ∷ [])
+unfolding sheet_row
+sheet-row_read sheet lock {n} e =
+    simp (
+      get_or-map (λ row. row.busy) sheet.rows lock empty_row,
+      get_or-map (λ row. row.grants) sheet.rows lock empty_row,
+      get_or-map (λ row. row.failed) sheet.rows lock empty_row,
+      get_or-map (λ row. row.share) sheet.rows lock empty_row,
+      ← e,
+    )
+
 -- ---- the whole text
 
--- of a sheet that was made, and of a refusal
-pub text_made : (made : MadeSheet) {number : ℕ} → number ≡ sheet_answer_number made.answer → number ≡ 0
-    → sheet_text made ≡ sheet_rows made.sheet (min made.sheet.locks 64)
-unfolding sheet_text
-text_made made e none = simp (eq-eqb (sheet_answer_number made.answer) 0 (sym e ∙ none))
-
-pub text-refused : (made : MadeSheet) {number : ℕ} → number ≡ sheet_answer_number made.answer → (number ≡ 0 → ⊥) → sheet_text made ≡ line 0 81 (number ∷ 0 ∷ [])
-unfolding sheet_text
-text-refused made e some = simp (ne_eqb (sheet_answer_number made.answer) 0 (λ none. some (e ∙ none)), e)
-
 -- what is told and what stands in the buffer, where it has room for any sheet
-module _ (buffer : List ℕ) (made : MadeSheet) (room : 6720 ≤ length buffer) where
+module _ (buffer : List ℕ) (made : Result Sheet SheetRefusal) (room : 6720 ≤ length buffer) where
   pub sheet_told_lem : sheet_writing buffer made ≡ record { number = 0; length = length (sheet_text made) }
   unfolding sheet_writing
   sheet_told_lem = simp (le-leb 6720 (length buffer) room)

@@ -1,12 +1,12 @@
 -- 02, item 13, "The monthly sheet": from the numbers of up to 400 runs, per lock and over all runs, busy steps, grants, N events and the busy share;
 -- and the numbers 24, 25 and 26.
-use Rattle.std.specs.Prelude.{ℕ, ◌+◌, ◌*◌, ◌/◌, ◌%◌, ◌≤◌, ◌≡◌, Bool, true, cond, not, ◌&&◌, List, eqb, ltb, leb, length, get_or, set, replicate}
+use Rattle.std.specs.Prelude.{ℕ, ◌+◌, ◌*◌, ◌/◌, ◌%◌, ◌≤◌, ◌≡◌, Bool, true, cond, not, ◌&&◌, List, map, eqb, ltb, leb, length, get_or, set, replicate, Result, Ok, Err}
 use Rattle.lists.specs.Loops.{every, total, in_order}
 use Rattle.lists.specs.Refusal.{refused_if}
 use Rattle.sums.specs.declared.Sheet.{Sheet}
-use Rattle.sums.specs.declared.SheetAnswer.{SheetAnswer}
-use Rattle.sums.specs.declared.SheetAnswer.TheVariants.{Made, TooManyRuns, LocksWrong, OutOfRange}
-use Rattle.sums.specs.declared.MadeSheet.{MadeSheet}
+use Rattle.sums.specs.declared.SheetRow.{SheetRow}
+use Rattle.sums.specs.declared.SheetRefusal.{SheetRefusal}
+use Rattle.sums.specs.declared.SheetRefusal.TheVariants.{TooManyRuns, LocksWrong, OutOfRange}
 
 -- ---- the layout: one row of 194 numbers a run, the rows one behind the other
 
@@ -90,59 +90,72 @@ over_runs numbers place = total (number_at numbers place) (run_count numbers)
 unfoldable pub share_of : ℕ → ℕ → ℕ
 share_of busy steps = cond (eqb steps 0) 0 (busy * 1000000 / steps)
 
--- "per lock": a number for each of the first locks, and 0 behind them
-unfoldable pub column : (ℕ → ℕ) → ℕ → List ℕ
-column number locks = in_order (λ lock filled. set filled lock (number lock)) locks (replicate lock_places 0)
+-- "per lock": what the sheet says of one lock over all runs
+unfoldable pub lock_row : List ℕ → ℕ → SheetRow
+lock_row numbers lock =
+    record {
+      busy = over_runs numbers (busy_place + lock);
+      grants = over_runs numbers (grants_place + lock);
+      failed = over_runs numbers (failed_place + lock);
+      share = share_of (over_runs numbers (busy_place + lock)) (over_runs numbers steps_place);
+    }
+
+abbrev pub empty_row : SheetRow
+empty_row = record { busy = 0; grants = 0; failed = 0; share = 0 }
+
+-- a row for each of the first locks, and an empty one behind them
+unfoldable pub rows_of : (ℕ → SheetRow) → ℕ → List SheetRow
+rows_of row locks = in_order (λ lock filled. set filled lock (row lock)) locks (replicate lock_places empty_row)
 
 unfoldable pub empty_sheet : Sheet
-empty_sheet =
-    record {
-      locks = 0;
-      busy = replicate lock_places 0;
-      grants = replicate lock_places 0;
-      failed = replicate lock_places 0;
-      share = replicate lock_places 0;
-    }
+empty_sheet = record { locks = 0; rows = replicate lock_places empty_row }
 
--- the sheet of the first runs, with so many locks
-unfoldable pub sheet_of_first : List ℕ → ℕ → ℕ → Sheet
-sheet_of_first numbers runs locks =
-    record {
-      locks = locks;
-      busy = column (λ lock. total (number_at numbers (busy_place + lock)) runs) locks;
-      grants = column (λ lock. total (number_at numbers (grants_place + lock)) runs) locks;
-      failed = column (λ lock. total (number_at numbers (failed_place + lock)) runs) locks;
-      share = column (λ lock. share_of (total (number_at numbers (busy_place + lock)) runs) (total (number_at numbers steps_place) runs)) locks;
-    }
-
--- of all runs
+-- the sheet of all runs
 unfoldable pub sheet_of : List ℕ → Sheet
-sheet_of numbers = sheet_of_first numbers (run_count numbers) (sheet_locks numbers)
+sheet_of numbers = record { locks = sheet_locks numbers; rows = rows_of (lock_row numbers) (sheet_locks numbers) }
 
--- the locks of the first runs: of no runs, none
-unfoldable pub locks_of_first : List ℕ → ℕ → ℕ
-locks_of_first numbers runs = cond (eqb runs 0) 0 (sheet_locks numbers)
+-- a sheet by its columns, each with a number for each place
+abbrev pub busy_of : Sheet → List ℕ
+busy_of sheet = map (λ row. row.busy) sheet.rows
 
--- so that no sum of theirs overflows: they and their locks are few, and each of them is in range
-abbrev pub Summable : List ℕ → ℕ → Type 0
-Summable numbers runs = (runs ≤ 400) × (locks_of_first numbers runs ≤ lock_places) × (every (run_in_range numbers) runs ≡ true)
+abbrev pub grants_of : Sheet → List ℕ
+grants_of sheet = map (λ row. row.grants) sheet.rows
+
+abbrev pub failed_of : Sheet → List ℕ
+failed_of sheet = map (λ row. row.failed) sheet.rows
+
+abbrev pub shares_of : Sheet → List ℕ
+shares_of sheet = map (λ row. row.share) sheet.rows
+
+-- so that no sum of the runs overflows: they and their locks are few, and each of them is in range
+abbrev pub Summable : List ℕ → Type 0
+Summable numbers = (run_count numbers ≤ 400) × (sheet_locks numbers ≤ lock_places) × (runs_in_range numbers ≡ true)
 
 -- ---- what is answered
 
+-- a refusal's number in 02
+unfoldable pub refusal_number : SheetRefusal → ℕ
+refusal_number TooManyRuns = 24
+refusal_number LocksWrong = 25
+refusal_number OutOfRange = 26
+
 -- an answer's number in 02; 0 where the sheet was made
-unfoldable pub sheet_answer_number : SheetAnswer → ℕ
-sheet_answer_number Made = 0
-sheet_answer_number TooManyRuns = 24
-sheet_answer_number LocksWrong = 25
-sheet_answer_number OutOfRange = 26
+unfoldable pub sheet_answer_number : Result Sheet SheetRefusal → ℕ
+sheet_answer_number (Ok sheet) = 0
+sheet_answer_number (Err refusal) = refusal_number refusal
+
+-- the sheet that an answer gives: "a refusal gives an empty sheet"
+unfoldable pub sheet_given : Result Sheet SheetRefusal → Sheet
+sheet_given (Ok sheet) = sheet
+sheet_given (Err refusal) = empty_sheet
 
 -- what an answer tells: its number and the sheet beside it
 pub record Told : Type 0 where
   pub number : ℕ
   pub sheet : Sheet
 
-unfoldable pub sheet_told : MadeSheet → Told
-sheet_told made = record { number = sheet_answer_number made.answer; sheet = made.sheet }
+unfoldable pub sheet_told : Result Sheet SheetRefusal → Told
+sheet_told made = record { number = sheet_answer_number made; sheet = sheet_given made }
 
 -- "a refusal gives an empty sheet"
 unfoldable pub making : List ℕ → Told

@@ -1,37 +1,37 @@
 -- What proofs/ proves over the definitions of the sheet, as sentences.
-use Rattle.std.specs.Prelude.{ℕ, ◌+◌, ◌*◌, ◌^◌, ◌≤◌, ◌<◌, ◌≡◌, List, [], length, get_or}
+use Rattle.std.specs.Prelude.{ℕ, ◌+◌, ◌*◌, ◌^◌, ◌≤◌, ◌<◌, ◌≡◌, List, [], length, get_or, Result}
 use Rattle.lists.specs.Loops.{total}
 use Rattle.sums.specs.declared.Sheet.{Sheet}
-use Rattle.sums.specs.declared.MadeSheet.{MadeSheet}
-use Rattle.sums.specs.Sheet.{lock_places, steps_place, locks_place, busy_place, grants_place, failed_place, run_count, number_at, sheet_locks, over_runs, sheet_number, empty_sheet, making}
+use Rattle.sums.specs.declared.SheetRefusal.{SheetRefusal}
+use Rattle.sums.specs.Sheet.{lock_places, steps_place, locks_place, busy_place, grants_place, failed_place, run_count, number_at, sheet_locks, over_runs, sheet_number, empty_sheet, busy_of, grants_of, failed_of, shares_of, making}
 use Rattle.sums.specs.Text.{sheet_room, sheet_text}
 
 -- "Sums equal the sums of the runs": the sheet has the runs' locks, and at each the sum over the runs of the number that the run has for it; 0
 -- behind them
 pub record SumsAt (numbers : List ℕ) (lock : ℕ) : Type 0 where
   pub locks : (making numbers).sheet.locks ≡ sheet_locks numbers
-  pub busy : get_or (making numbers).sheet.busy lock 0 ≡ total (number_at numbers (busy_place + lock)) (run_count numbers)
-  pub grants : get_or (making numbers).sheet.grants lock 0 ≡ total (number_at numbers (grants_place + lock)) (run_count numbers)
-  pub failed : get_or (making numbers).sheet.failed lock 0 ≡ total (number_at numbers (failed_place + lock)) (run_count numbers)
+  pub busy : get_or (busy_of (making numbers).sheet) lock 0 ≡ total (number_at numbers (busy_place + lock)) (run_count numbers)
+  pub grants : get_or (grants_of (making numbers).sheet) lock 0 ≡ total (number_at numbers (grants_place + lock)) (run_count numbers)
+  pub failed : get_or (failed_of (making numbers).sheet) lock 0 ≡ total (number_at numbers (failed_place + lock)) (run_count numbers)
 
 abbrev pub TheSumsOfTheRuns : Type 0
 TheSumsOfTheRuns = (numbers : List ℕ) (lock : ℕ) → sheet_number numbers ≡ 0 → lock < sheet_locks numbers → SumsAt numbers lock
 
 pub record NothingAt (sheet : Sheet) (lock : ℕ) : Type 0 where
-  pub busy : get_or sheet.busy lock 0 ≡ 0
-  pub grants : get_or sheet.grants lock 0 ≡ 0
-  pub failed : get_or sheet.failed lock 0 ≡ 0
-  pub share : get_or sheet.share lock 0 ≡ 0
+  pub busy : get_or (busy_of sheet) lock 0 ≡ 0
+  pub grants : get_or (grants_of sheet) lock 0 ≡ 0
+  pub failed : get_or (failed_of sheet) lock 0 ≡ 0
+  pub share : get_or (shares_of sheet) lock 0 ≡ 0
 
 abbrev pub NothingBehindTheLocks : Type 0
 NothingBehindTheLocks = (numbers : List ℕ) (lock : ℕ) → (making numbers).sheet.locks ≤ lock → NothingAt (making numbers).sheet lock
 
 -- "the busy share in whole parts per million rounded down, with 0 where no step ran": over all runs' steps
 pub record RoundedDown (numbers : List ℕ) (lock : ℕ) : Type 0 where
-  pub no_step : over_runs numbers steps_place ≡ 0 → get_or (making numbers).sheet.share lock 0 ≡ 0
-  pub at_most : get_or (making numbers).sheet.share lock 0 * over_runs numbers steps_place ≤ over_runs numbers (busy_place + lock) * 1000000
+  pub no_step : over_runs numbers steps_place ≡ 0 → get_or (shares_of (making numbers).sheet) lock 0 ≡ 0
+  pub at_most : get_or (shares_of (making numbers).sheet) lock 0 * over_runs numbers steps_place ≤ over_runs numbers (busy_place + lock) * 1000000
   pub less_than_one_more : 0 < over_runs numbers steps_place
-      → over_runs numbers (busy_place + lock) * 1000000 < (get_or (making numbers).sheet.share lock 0 + 1) * over_runs numbers steps_place
+      → over_runs numbers (busy_place + lock) * 1000000 < (get_or (shares_of (making numbers).sheet) lock 0 + 1) * over_runs numbers steps_place
 
 abbrev pub TheShareIsRoundedDown : Type 0
 TheShareIsRoundedDown = (numbers : List ℕ) (lock : ℕ) → sheet_number numbers ≡ 0 → lock < sheet_locks numbers → RoundedDown numbers lock
@@ -86,11 +86,11 @@ pub record SmallSums (numbers : List ℕ) (lock : ℕ) : Type 0 where
   pub grants : over_runs numbers (grants_place + lock) ≤ 64 * over_runs numbers steps_place
   pub failed : over_runs numbers (failed_place + lock) ≤ 64 * over_runs numbers steps_place
   pub product : over_runs numbers (busy_place + lock) * 1000000 < 2 ^ 64
-  pub share : get_or (making numbers).sheet.share lock 0 ≤ 1000000
+  pub share : get_or (shares_of (making numbers).sheet) lock 0 ≤ 1000000
 
 abbrev pub NothingWraps : Type 0
 NothingWraps = (numbers : List ℕ) (lock : ℕ) → sheet_number numbers ≡ 0 → lock < sheet_locks numbers → SmallSums numbers lock
 
 -- the room that the writer of sheets asks for is enough for every answer
 abbrev pub RoomForEverySheet : Type 0
-RoomForEverySheet = (made : MadeSheet) → length (sheet_text made) ≤ sheet_room
+RoomForEverySheet = (made : Result Sheet SheetRefusal) → length (sheet_text made) ≤ sheet_room

@@ -1,2 +1,2 @@
 -- What the contracts of `tables` cite.
-pub mod Seen
+pub mod Whole

@@ -1,4 +1,5 @@
 -- What a step adds to a lock's busy steps: one where the lock is busy after it, else nothing.
+use Rattle.std.specs.Prelude.{Option}
 use Prim.Native.Nat.{ℕ, zero, suc, ◌+◌, ◌-◌, ◌^◌, ◌≤◌, ◌<◌, min}
 use mathlib.Core.Path.{◌≡◌, refl, ◌∙◌, ap}
 use mathlib.Core.Bool.{Bool, true, false, cond}
@@ -9,8 +10,8 @@ use lib.ListN.{get_or, length, length-set}
 use lib.Seq.{get_or-set_same}
 use borrow.Author.Tests.{eqb-true, eqb-false}
 use Rattle.lists.specs.Loops.{in_order}
+use Rattle.turns.specs.declared.Event.{Event}
 use Rattle.usernode.specs.declared.Node.{Node}
-use Rattle.ring.specs.declared.Happening.{Happening}
 use Rattle.tally.specs.declared.Tally.{Tally}
 use Rattle.tally.specs.Tally.{more, counted, busy, busy_lock, busy_counts, step_tally}
 use Rattle.tally.proofs.Times.{one_more}
@@ -71,7 +72,7 @@ capped true m count e = ap more e ∙ one_more m
 capped false m count e = e ∙ ap (λ (k : ℕ). min k (2 ^ 64 - 1)) (omega arith)
 
 -- a step
-module _ (nodes : List Node) (events : List Happening) (count locks : ℕ) (tally : Tally) where
+module _ (nodes : List Node) (events : List (Option Event)) (count locks : ℕ) (tally : Tally) where
   pub step_places : length (step_tally nodes events count locks tally).busy ≡ length tally.busy
   unfolding step_tally
   step_places = busy_places nodes (min count 64) tally.busy (min locks 64)

@@ -1,4 +1,5 @@
 -- Where a step gives a user node no event, the locks that the node holds and those that it is letting go stay as they were.
+use Rattle.std.specs.Prelude.{Option, None}
 use Prim.Native.Nat.{ℕ, ◌≤◌, ◌<◌}
 use mathlib.Core.Path.{◌≡◌, refl, ◌∙◌, sym, ap, ap₂, subst}
 use mathlib.Core.Bool.{Bool, true, false, cond, ◌||◌}
@@ -18,10 +19,9 @@ use Rattle.usernode.specs.declared.Rule.TheVariants.{Passes, SendsReqp, SendsDov
 use Rattle.usernode.specs.Node.{had}
 use Rattle.usernode.specs.Rules.{rule}
 use Rattle.turns.specs.declared.Turn.{Turn}
-use Rattle.turns.specs.declared.Event.TheVariants.{Nothing}
+use Rattle.turns.specs.declared.Event.{Event}
 use Rattle.turns.specs.Turn.{becomes, apply, event_of, turn}
 use Rattle.ring.specs.declared.State.{State}
-use Rattle.ring.specs.declared.Happening.{Happening}
 use Rattle.ring.specs.State.{rest_node}
 use Rattle.ring.specs.Sound.{sound}
 use Rattle.ring.specs.Walk.{Walk, quiet, node_here, turn_here, on_node, enters, leaves, along, setting_out, walk}
@@ -38,7 +38,7 @@ unfolding had
 kept_had lock kept = ap₂ (λ (held letting : ℕ). has held lock || has letting lock) kept.held kept.letting
 
 -- by the nine rules
-rule-keeps : (rules me : ℕ) (arrival : Car) (node : Node) (r : Rule) → event_of r ≡ Nothing → Kept node (apply rules me arrival node r)
+rule-keeps : (rules me : ℕ) (arrival : Car) (node : Node) (r : Rule) → event_of r ≡ None → Kept node (apply rules me arrival node r)
 unfolding apply becomes event_of
 rule-keeps rules me arrival node (SendsReqp lock) e = record { held = refl; letting = refl }
 rule-keeps rules me arrival node (SendsDov lock) e = record { held = refl; letting = refl }
@@ -51,23 +51,23 @@ rule-keeps rules me arrival node (LosesLock tag) e = record { held = cc; letting
 rule-keeps rules me arrival node Passes e = record { held = refl; letting = refl }
 
 -- a user node's turn without an event
-pub turn-keeps : (rules me : ℕ) (arrival : Car) (node : Node) → (turn rules me arrival node).event ≡ Nothing → Kept node (turn rules me arrival node).node
+pub turn-keeps : (rules me : ℕ) (arrival : Car) (node : Node) → (turn rules me arrival node).event ≡ None → Kept node (turn rules me arrival node).node
 unfolding turn
 turn-keeps rules me arrival node e = rule-keeps rules me arrival node (rule node me arrival) e
 
 -- at a place without an event, the words are those before the step
-abbrev KeptAt : List Node → List Node → List Happening → ℕ → Type 0
-KeptAt old nodes events place = (get_or events place quiet).event ≡ Nothing → Kept (get_or old place rest_node) (get_or nodes place rest_node)
+abbrev KeptAt : List Node → List Node → List (Option Event) → ℕ → Type 0
+KeptAt old nodes events place = get_or events place quiet ≡ None → Kept (get_or old place rest_node) (get_or nodes place rest_node)
 
 -- a turn's node and its event written to the same place
-written : (old nodes : List Node) (events : List Happening) (here : ℕ) (t : Turn) → length nodes ≡ length old → here < length events
-    → (t.event ≡ Nothing → Kept (get_or old here rest_node) t.node) → KeptAt old (set nodes here t.node) (set events here (record { event = t.event })) here
+written : (old nodes : List Node) (events : List (Option Event)) (here : ℕ) (t : Turn) → length nodes ≡ length old → here < length events
+    → (t.event ≡ None → Kept (get_or old here rest_node) t.node) → KeptAt old (set nodes here t.node) (set events here t.event) here
 written old nodes events here t long room turned e = go (ltb here (length nodes)) refl
   where
     go : (b : Bool) → ltb here (length nodes) ≡ b → Kept (get_or old here rest_node) (get_or (set nodes here t.node) here rest_node)
     go true l =
         subst (Kept (get_or old here rest_node)) (sym (get_or-set_same nodes here _ rest_node (ltb-true _ _ l)))
-        (turned (ap (λ (h : Happening). h.event) (sym (get_or-set_same events here (record { event = t.event }) quiet room)) ∙ e))
+        (turned (sym (get_or-set_same events here t.event quiet room) ∙ e))
     go false l =
         let beyond : length nodes ≤ here = ltb-false _ _ l in
         let same : get_or (set nodes here t.node) here rest_node ≡ get_or old here rest_node =
@@ -76,20 +76,20 @@ written old nodes events here t long room turned e = go (ltb here (length nodes)
         record { held = ap (λ (n : Node). n.held) same; letting = ap (λ (n : Node). n.letting) same }
 
 -- and the other places
-beside : (old nodes : List Node) (events : List Happening) (here : ℕ) (t : Turn) → length nodes ≡ length old → length events ≡ 64
-    → (t.event ≡ Nothing → Kept (get_or old here rest_node) t.node) → (place : ℕ) → place < 64 → KeptAt old nodes events place
-    → KeptAt old (set nodes here t.node) (set events here (record { event = t.event })) place
+beside : (old nodes : List Node) (events : List (Option Event)) (here : ℕ) (t : Turn) → length nodes ≡ length old → length events ≡ 64
+    → (t.event ≡ None → Kept (get_or old here rest_node) t.node) → (place : ℕ) → place < 64 → KeptAt old nodes events place
+    → KeptAt old (set nodes here t.node) (set events here t.event) place
 beside old nodes events here t long room turned place below kept = go (eqb place here) refl
   where
-    go : (b : Bool) → eqb place here ≡ b → KeptAt old (set nodes here t.node) (set events here (record { event = t.event })) place
+    go : (b : Bool) → eqb place here ≡ b → KeptAt old (set nodes here t.node) (set events here t.event) place
     go true q =
         let same : place ≡ here = eqb-true _ _ q in
-        subst (KeptAt old (set nodes here t.node) (set events here (record { event = t.event }))) (sym same)
+        subst (KeptAt old (set nodes here t.node) (set events here t.event)) (sym same)
         (written old nodes events here t long (omega arith) turned)
     go false q = λ e.
         let other = eqb-false _ _ q in
         subst (Kept (get_or old place rest_node)) (sym (get_or-set_other nodes here place _ rest_node other))
-        (kept (ap (λ (h : Happening). h.event) (sym (get_or-set_other events here place (record { event = t.event }) quiet other)) ∙ e))
+        (kept (sym (get_or-set_other events here place t.event quiet other) ∙ e))
 
 -- what the walk so far has kept
 record Keeps (state : State) (w : Walk) : Type 0 where
@@ -125,7 +125,7 @@ keeps-walk state =
     (record { node_places_lem = refl; event_places = length-replicate 64 quiet; words = λ place below e. record { held = refl; letting = refl } })
 
 -- a step, refused or done: a place without an event
-pub step_keeps : (state : State) (place : ℕ) → place < 64 → (get_or (stepping state).events place quiet).event ≡ Nothing
+pub step_keeps : (state : State) (place : ℕ) → place < 64 → get_or (stepping state).events place quiet ≡ None
     → Kept (get_or state.nodes place rest_node) (get_or (stepping state).state.nodes place rest_node)
 unfolding stepping moving done refused next_state
 step_keeps state place below = go (sound state) (eqb (step_number state) 0)

@@ -1,12 +1,14 @@
 -- One turn more of each loop of this crate, and the busy locks read off one word.
-use Prim.Native.Nat.{ℕ, zero, suc, ◌+◌, ◌-◌, ◌^◌, ◌<◌, min}
+use Rattle.std.specs.Prelude.{Option, None, Some}
+use Prim.Native.Nat.{ℕ, zero, suc, ◌+◌, ◌-◌, ◌^◌, ◌≤◌, ◌<◌, min}
 use mathlib.Core.Path.{◌≡◌, refl, ◌∙◌, sym, ap, ap₂, subst}
 use mathlib.Core.Bool.{Bool, false, cond, ◌||◌}
 use mathlib.Core.List.{List}
 use native.Mathlib.Omega.{arith}
 use lib.Dec.{T}
 use lib.Bits.{bit_or}
-use lib.ListN.{get_or, get_or-replicate}
+use lib.ListN.{get_or, get_or-replicate, take, length, length-take}
+use Rattle.std.proofs.lemmas.List.{get_or-take}
 use Rattle.lists.specs.Loops.{iterate, in_order}
 use Rattle.lists.proofs.Laws.{some_more, in_order-more, in_order_same}
 use Rattle.words.specs.Words.{has}
@@ -14,8 +16,7 @@ use Rattle.words.proofs.Sets.{has_or}
 use Rattle.usernode.specs.declared.Node.{Node}
 use Rattle.usernode.specs.Node.{had}
 use Rattle.turns.specs.declared.Event.{Event}
-use Rattle.turns.specs.declared.Event.TheVariants.{Nothing, Granted, Failed, Lost, Back, Sent}
-use Rattle.ring.specs.declared.Happening.{Happening}
+use Rattle.turns.specs.declared.Event.TheVariants.{Granted, Failed, Lost, Back, Sent}
 use Rattle.ring.specs.State.{rest_node}
 use Rattle.ring.specs.Walk.{quiet}
 use Rattle.tally.specs.Tally.{more, counted, busy, busy_lock, busy_counts, is_counted, event_tally, place_tally, events_tally, step_tally, no_events, silent_tally, add_up}
@@ -54,27 +55,27 @@ word_busy nodes count word e locks steps counts =
     ∙ sym (all_times (busy nodes count) more locks steps counts)
 
 -- an event that is not counted changes nothing
-pub not-counted : (event : Event) (tally : Tally) → is_counted event ≡ false → tally ≡ event_tally event tally
+pub not-counted : (event : Option Event) (tally : Tally) → is_counted event ≡ false → tally ≡ event_tally event tally
 unfolding is_counted event_tally
-not-counted Nothing tally e = refl
-not-counted (Granted lock) tally e = absurd (subst T e tt)
-not-counted (Failed lock) tally e = absurd (subst T e tt)
-not-counted (Lost lock) tally e = refl
-not-counted (Back lock) tally e = refl
-not-counted (Sent lock) tally e = refl
+not-counted None tally e = refl
+not-counted (Some (Granted lock)) tally e = absurd (subst T e tt)
+not-counted (Some (Failed lock)) tally e = absurd (subst T e tt)
+not-counted (Some (Lost lock)) tally e = refl
+not-counted (Some (Back lock)) tally e = refl
+not-counted (Some (Sent lock)) tally e = refl
 
 -- where nothing happened, nothing is counted
-pub none_tally : (events : List Happening) (count : ℕ) (tally : Tally) → ((place : ℕ) → place < count → (get_or events place quiet).event ≡ Nothing)
+pub none_tally : (events : List (Option Event)) (count : ℕ) (tally : Tally) → ((place : ℕ) → place < count → get_or events place quiet ≡ None)
     → events_tally events count tally ≡ tally
 unfolding events_tally place_tally event_tally in_order
 none_tally events zero tally e = refl
 none_tally events (suc count) tally e =
-    ap (λ (event : Event). event_tally event (events_tally events count tally)) (e count (omega arith)) ∙ none_tally events count tally (λ place below. e place (omega arith))
+    ap (λ (event : Option Event). event_tally event (events_tally events count tally)) (e count (omega arith)) ∙ none_tally events count tally (λ place below. e place (omega arith))
 
 -- at no place of `no_events` is there an event
-pub no-events : (place : ℕ) → place < 64 → (get_or no_events place quiet).event ≡ Nothing
+pub no-events : (place : ℕ) → place < 64 → get_or no_events place quiet ≡ None
 unfolding quiet
-no-events place below = ap (λ (h : Happening). h.event) (get_or-replicate 64 place quiet quiet below)
+no-events place below = get_or-replicate 64 place quiet quiet below
 
 -- so many steps without an event: the busy counts that many times larger, and nothing else
 pub silent_counts : (nodes : List Node) (count locks steps : ℕ) (tally : Tally) → silent_tally nodes count locks steps tally
@@ -84,3 +85,11 @@ silent_counts nodes count locks zero tally = refl
 silent_counts nodes count locks (suc steps) tally =
     let none : (t : Tally) → events_tally no_events (min count 64) t ≡ t = λ t. none_tally no_events (min count 64) t (λ place below. no-events place (omega arith)) in
     ap (step_tally nodes no_events count locks) (silent_counts nodes count locks steps tally) ∙ simp none
+
+-- a place among the first ones of a list
+pub first-at : {A : Type 0} (n : ℕ) (l : List A) (i : ℕ) (d : A) → i < length (take n l) → get_or (take n l) i d ≡ get_or l i d
+first-at n l i d below = get_or-take n l i d (omega (arith, length-take n l))
+
+-- and where all of them are passed, that many are
+pub firsts_passed : {A : Type 0} (n : ℕ) (l : List A) (i : ℕ) → n ≤ length l → i ≤ length (take n l) → length (take n l) ≤ i → i ≡ n
+firsts_passed n l i long most past = omega (arith, length-take n l)

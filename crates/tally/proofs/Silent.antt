@@ -1,5 +1,6 @@
 -- Steps without an event: what is counted after such a step depends on the nodes before it alone, so that many of them can be
 -- counted at once.
+use Rattle.std.specs.Prelude.{Option, None, Some}
 use Prim.Native.Nat.{ℕ, ◌+◌, ◌<◌, min}
 use mathlib.Core.Path.{◌≡◌, refl, ◌∙◌, sym, ap}
 use mathlib.Core.Bool.{Bool, true, cond}
@@ -12,9 +13,8 @@ use Rattle.lists.proofs.Laws.{every-at, iterate-first, iterate_same, in_order_sa
 use Rattle.plan.specs.Plan.{node_count}
 use Rattle.usernode.specs.declared.Node.{Node}
 use Rattle.turns.specs.declared.Event.{Event}
-use Rattle.turns.specs.declared.Event.TheVariants.{Nothing, Granted, Failed, Lost, Back, Sent}
+use Rattle.turns.specs.declared.Event.TheVariants.{Granted, Failed, Lost, Back, Sent}
 use Rattle.ring.specs.declared.State.{State}
-use Rattle.ring.specs.declared.Happening.{Happening}
 use Rattle.ring.specs.State.{rest_node}
 use Rattle.ring.specs.Walk.{quiet}
 use Rattle.ring.specs.Step.{stepping}
@@ -24,15 +24,15 @@ use Rattle.tally.specs.Tally.{counted, busy, busy_lock, busy_counts, step_tally,
 use Rattle.tally.proofs.Laws.{none_tally, no-events}
 use Rattle.tally.proofs.Kept.{Kept, kept_had, step_keeps}
 
--- where nothing happened, the event is Nothing
-no_event_lem : (event : Event) → no_event event ≡ true → event ≡ Nothing
+-- where nothing happened, there is no event
+no_event_lem : (event : Option Event) → no_event event ≡ true → event ≡ None
 unfolding no_event
-no_event_lem Nothing e = refl
-no_event_lem (Granted lock) e = cc
-no_event_lem (Failed lock) e = cc
-no_event_lem (Lost lock) e = cc
-no_event_lem (Back lock) e = cc
-no_event_lem (Sent lock) e = cc
+no_event_lem None e = refl
+no_event_lem (Some (Granted lock)) e = cc
+no_event_lem (Some (Failed lock)) e = cc
+no_event_lem (Some (Lost lock)) e = cc
+no_event_lem (Some (Back lock)) e = cc
+no_event_lem (Some (Sent lock)) e = cc
 
 -- nodes that have the same keep the same locks busy
 pub busy_same : (old new : List Node) (count lock : ℕ)
@@ -42,9 +42,9 @@ unfolding busy
 busy_same old new count lock kept = some_same _ _ count (λ place below. kept_had lock (kept place below))
 
 -- nodes that keep the same locks busy, and no event: the same is counted
-same_tally : (old new : List Node) (events : List Happening) (count locks : ℕ) (tally : Tally)
+same_tally : (old new : List Node) (events : List (Option Event)) (count locks : ℕ) (tally : Tally)
     → ((lock : ℕ) → busy new (min count 64) lock ≡ busy old (min count 64) lock)
-    → ((place : ℕ) → place < min count 64 → (get_or events place quiet).event ≡ Nothing)
+    → ((place : ℕ) → place < min count 64 → get_or events place quiet ≡ None)
     → step_tally new events count locks tally ≡ step_tally old no_events count locks tally
 unfolding step_tally busy_counts busy_lock
 same_tally old new events count locks tally b e =
@@ -55,7 +55,7 @@ same_tally old new events count locks tally b e =
 -- a silent step
 module _ (state : State) (none : silent state ≡ true) where
   -- at each node of the plan there was no event
-  pub silent_place : (place : ℕ) → place < node_count state.plan → (get_or (stepping state).events place quiet).event ≡ Nothing
+  pub silent_place : (place : ℕ) → place < node_count state.plan → get_or (stepping state).events place quiet ≡ None
   unfolding silent
   silent_place place below = no_event_lem _ (every-at _ (node_count state.plan) place none below)
 

@@ -1,5 +1,6 @@
 -- What is counted at most: nothing at the start; in one step one more of a lock's busy steps, and one for each node of all grants and N events.
 -- And a sum is at most what it would be without a top.
+use Rattle.std.specs.Prelude.{Option, None, Some}
 use Prim.Native.Nat.{ℕ, zero, suc, ◌+◌, ◌-◌, ◌^◌, ◌≤◌, min}
 use mathlib.Core.Path.{◌≡◌, refl}
 use mathlib.Core.Bool.{Bool, true, false, cond}
@@ -13,8 +14,7 @@ use Rattle.lists.specs.Loops.{total, in_order}
 use Rattle.lists.proofs.Laws.{total_monotone}
 use Rattle.usernode.specs.declared.Node.{Node}
 use Rattle.turns.specs.declared.Event.{Event}
-use Rattle.turns.specs.declared.Event.TheVariants.{Nothing, Granted, Failed, Lost, Back, Sent}
-use Rattle.ring.specs.declared.Happening.{Happening}
+use Rattle.turns.specs.declared.Event.TheVariants.{Granted, Failed, Lost, Back, Sent}
 use Rattle.ring.specs.Walk.{quiet}
 use Rattle.tally.specs.declared.Tally.{Tally}
 use Rattle.tally.specs.Tally.{more, counted, busy, busy_lock, busy_counts, event_tally, place_tally, events_tally, step_tally, empty_tally, no_counts, add_up, sum_of}
@@ -85,20 +85,20 @@ busies_most nodes count (suc n) lock counts =
 abbrev pub events_in : Tally → ℕ
 events_in tally = together tally.grants 64 + together tally.failed 64
 
-event_most : (event : Event) (tally : Tally) → events_in (event_tally event tally) ≤ events_in tally + 1
+event_most : (event : Option Event) (tally : Tally) → events_in (event_tally event tally) ≤ events_in tally + 1
 unfolding event_tally
-event_most Nothing tally = omega arith
-event_most (Granted lock) tally = omega (arith, together_most tally.grants lock 64)
-event_most (Failed lock) tally = omega (arith, together_most tally.failed lock 64)
-event_most (Lost lock) tally = omega arith
-event_most (Back lock) tally = omega arith
-event_most (Sent lock) tally = omega arith
+event_most None tally = omega arith
+event_most (Some (Granted lock)) tally = omega (arith, together_most tally.grants lock 64)
+event_most (Some (Failed lock)) tally = omega (arith, together_most tally.failed lock 64)
+event_most (Some (Lost lock)) tally = omega arith
+event_most (Some (Back lock)) tally = omega arith
+event_most (Some (Sent lock)) tally = omega arith
 
-events_most : (events : List Happening) (count : ℕ) (tally : Tally) → events_in (events_tally events count tally) ≤ events_in tally + count
+events_most : (events : List (Option Event)) (count : ℕ) (tally : Tally) → events_in (events_tally events count tally) ≤ events_in tally + count
 unfolding events_tally place_tally in_order
 events_most events zero tally = omega arith
 events_most events (suc count) tally =
-    omega (arith, events_most events count tally, event_most (get_or events count quiet).event (events_tally events count tally))
+    omega (arith, events_most events count tally, event_most (get_or events count quiet) (events_tally events count tally))
 
 -- nothing counted yet
 zeros : (n lock : ℕ) → get_or (replicate n 0) lock 0 ≤ 0
@@ -115,7 +115,7 @@ unfolding empty_tally no_counts total
 none_events = refl
 
 -- a step
-module _ (nodes : List Node) (events : List Happening) (count locks : ℕ) (tally : Tally) where
+module _ (nodes : List Node) (events : List (Option Event)) (count locks : ℕ) (tally : Tally) where
   pub step_busy : (lock : ℕ) → get_or (step_tally nodes events count locks tally).busy lock 0 ≤ get_or tally.busy lock 0 + 1
   unfolding step_tally
   step_busy lock = omega (arith, busies_most nodes (min count 64) (min locks 64) lock tally.busy)

@@ -21,6 +21,10 @@ one_more m = go (ltb (min m (2 ^ 64 - 1)) (2 ^ 64 - 1)) refl
     go true t = let below : min m (2 ^ 64 - 1) < 2 ^ 64 - 1 = ltb-true _ _ t in omega arith
     go false t = let top : 2 ^ 64 - 1 ≤ min m (2 ^ 64 - 1) = ltb-false _ _ t in omega arith
 
+-- and of any count of 64 bits
+pub more_is : (count : ℕ) → count < 2 ^ 64 → more count ≡ min (count + 1) (2 ^ 64 - 1)
+more_is count fits = let same : count ≡ min count (2 ^ 64 - 1) = omega arith in ap more same ∙ one_more count
+
 -- one more, so many times
 pub more-times : (n c : ℕ) → c ≤ 2 ^ 64 - 1 → iterate more n c ≡ min (c + n) (2 ^ 64 - 1)
 unfolding iterate

@@ -1,12 +1,11 @@
 -- 01, "The run and its lines", with busy steps as 02's item 1 has them: what a run counts for each lock: busy steps, grants and N events.
-use Rattle.std.specs.Prelude.{ℕ, ◌+◌, ◌-◌, ◌^◌, min, Bool, cond, true, false, List, ltb, get_or, set, replicate}
+use Rattle.std.specs.Prelude.{ℕ, ◌+◌, ◌-◌, ◌^◌, min, Bool, cond, true, false, Option, None, Some, List, ltb, get_or, set, replicate}
 use Rattle.lists.specs.Loops.{some, iterate, in_order}
 use Rattle.plan.specs.Plan.{node_places}
 use Rattle.usernode.specs.declared.Node.{Node}
 use Rattle.usernode.specs.Node.{had}
 use Rattle.turns.specs.declared.Event.{Event}
-use Rattle.turns.specs.declared.Event.TheVariants.{Nothing, Granted, Failed, Lost, Back, Sent}
-use Rattle.ring.specs.declared.Happening.{Happening}
+use Rattle.turns.specs.declared.Event.TheVariants.{Granted, Failed, Lost, Back, Sent}
 use Rattle.ring.specs.State.{rest_node}
 use Rattle.ring.specs.Walk.{quiet}
 use Rattle.tally.specs.declared.Tally.{Tally}
@@ -42,32 +41,32 @@ unfoldable pub busy_counts : List Node → ℕ → ℕ → List ℕ → List ℕ
 busy_counts nodes count locks = in_order (busy_lock nodes count) locks
 
 -- whether an event is one that is counted: G and N
-unfoldable pub is_counted : Event → Bool
-is_counted Nothing = false
-is_counted (Granted lock) = true
-is_counted (Failed lock) = true
-is_counted (Lost lock) = false
-is_counted (Back lock) = false
-is_counted (Sent lock) = false
+unfoldable pub is_counted : Option Event → Bool
+is_counted None = false
+is_counted (Some (Granted lock)) = true
+is_counted (Some (Failed lock)) = true
+is_counted (Some (Lost lock)) = false
+is_counted (Some (Back lock)) = false
+is_counted (Some (Sent lock)) = false
 
 -- one more grant for G, one more failure for N, of the event's lock
-unfoldable pub event_tally : Event → Tally → Tally
-event_tally Nothing tally = tally
-event_tally (Granted lock) tally = record { busy = tally.busy; grants = counted tally.grants lock; failed = tally.failed }
-event_tally (Failed lock) tally = record { busy = tally.busy; grants = tally.grants; failed = counted tally.failed lock }
-event_tally (Lost lock) tally = tally
-event_tally (Back lock) tally = tally
-event_tally (Sent lock) tally = tally
+unfoldable pub event_tally : Option Event → Tally → Tally
+event_tally None tally = tally
+event_tally (Some (Granted lock)) tally = record { busy = tally.busy; grants = counted tally.grants lock; failed = tally.failed }
+event_tally (Some (Failed lock)) tally = record { busy = tally.busy; grants = tally.grants; failed = counted tally.failed lock }
+event_tally (Some (Lost lock)) tally = tally
+event_tally (Some (Back lock)) tally = tally
+event_tally (Some (Sent lock)) tally = tally
 
 -- the events of the first nodes
-unfoldable pub place_tally : List Happening → ℕ → Tally → Tally
-place_tally events place tally = event_tally (get_or events place quiet).event tally
+unfoldable pub place_tally : List (Option Event) → ℕ → Tally → Tally
+place_tally events place tally = event_tally (get_or events place quiet) tally
 
-unfoldable pub events_tally : List Happening → ℕ → Tally → Tally
+unfoldable pub events_tally : List (Option Event) → ℕ → Tally → Tally
 events_tally events count tally = in_order (place_tally events) count tally
 
 -- what is counted after a step: its events, and who has what then; of at most as many nodes and locks as there are places
-unfoldable pub step_tally : List Node → List Happening → ℕ → ℕ → Tally → Tally
+unfoldable pub step_tally : List Node → List (Option Event) → ℕ → ℕ → Tally → Tally
 step_tally nodes events count locks tally =
     record {
       busy = busy_counts nodes (min count node_places) (min locks lock_places) tally.busy;
@@ -76,7 +75,7 @@ step_tally nodes events count locks tally =
     }
 
 -- no event at any node
-abbrev pub no_events : List Happening
+abbrev pub no_events : List (Option Event)
 no_events = replicate node_places quiet
 
 -- what is counted after so many steps without an event: who has what stays as it is

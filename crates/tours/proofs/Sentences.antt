@@ -1,13 +1,12 @@
 -- The car leads to the sentence of 01 that applies, outside a tour and in one. By the car, and then by the tests that are left.
 use Prim.Native.Nat.{ℕ}
-use mathlib.Core.Path.{◌≡◌, refl, ap, ◌∙◌}
+use mathlib.Core.Path.{◌≡◌, refl, sym}
 use mathlib.Core.Bool.{Bool, true, false, cond}
 use Rattle.words.specs.Words.{has}
 use Rattle.cars.specs.declared.Tag.{Tag}
 use Rattle.cars.specs.declared.Car.{Car}
 use Rattle.cars.specs.declared.Car.TheVariants.{Idle, Token, Null, Reqp, Failp, Dov, Gotp, Didv}
 use Rattle.cars.specs.Kinds.{is_idle_car, is_token_car, reqp_that, gotp_that, didv_that}
-use Rattle.tours.specs.declared.JunctionRule.{JunctionRule}
 use Rattle.tours.specs.declared.JunctionRule.TheVariants.{GoesOn, FailsReqp, Begins, CarOut, SetsBit, ClearsBit}
 use Rattle.tours.specs.Rules.{within, outside, if_train, on_gotp, on_didv, in_tour}
 use Rattle.tours.specs.Sentences.{sentence_number, from_subring, outside_sentence, tour_sentence}
@@ -68,11 +67,9 @@ sentence_in_tour true low high (Dov tag) = refl
 sentence_in_tour true low high (Gotp notice) = gotp_sentence (within low high notice.source) notice.lock
 sentence_in_tour true low high (Didv notice) = didv_sentence (within low high notice.source) notice.lock
 
--- a case as the definition has it, with its sentence: the promises of outside and in_tour
-pub said_outside : (word : ℕ) (wants : Bool) (arrival : Car) (r : JunctionRule)
-    → r ≡ outside word wants arrival → (r ≡ outside word wants arrival) × (sentence_number r ≡ outside_sentence word wants arrival)
-said_outside word wants arrival r e = (e, ap sentence_number e ∙ sentence_outside word wants arrival)
+-- the same the other way round, for the promises of outside and in_tour
+pub said_outside : (word : ℕ) (wants : Bool) (arrival : Car) → outside_sentence word wants arrival ≡ sentence_number (outside word wants arrival)
+said_outside word wants arrival = sym (sentence_outside word wants arrival)
 
-pub said_in_tour : (train : Bool) (low high : ℕ) (out : Car) (r : JunctionRule)
-    → r ≡ in_tour train low high out → (r ≡ in_tour train low high out) × (sentence_number r ≡ tour_sentence train low high out)
-said_in_tour train low high out r e = (e, ap sentence_number e ∙ sentence_in_tour train low high out)
+pub said_in_tour : (train : Bool) (low high : ℕ) (out : Car) → tour_sentence train low high out ≡ sentence_number (in_tour train low high out)
+said_in_tour train low high out = sym (sentence_in_tour train low high out)

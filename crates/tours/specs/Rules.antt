@@ -1,7 +1,7 @@
 -- 01, "Junction outside a local tour" and "Junction in a local tour": which of their sentences applies. What each does is in crate junction.
 use Rattle.std.specs.Prelude.{ℕ, Bool, cond, ◌&&◌, ltb, leb}
 use Rattle.words.specs.Words.{has}
-use Rattle.cars.specs.declared.Notice.{Notice}
+use Rattle.cars.specs.declared.Tag.{Tag}
 use Rattle.cars.specs.declared.Car.{Car}
 use Rattle.cars.specs.declared.Car.TheVariants.{Idle, Token, Null, Reqp, Failp, Dov, Gotp, Didv}
 use Rattle.tours.specs.declared.JunctionRule.{JunctionRule}
@@ -28,10 +28,10 @@ unfoldable pub if_train : Bool → JunctionRule → JunctionRule
 if_train train rule = cond train rule Drops
 
 -- "a gotp or didv from a node of this subring sets or clears the word's bit"; "every car goes to the main ring"
-unfoldable pub on_gotp : ℕ → ℕ → Notice → JunctionRule
+unfoldable pub on_gotp : ℕ → ℕ → Tag → JunctionRule
 on_gotp low high notice = cond (within low high notice.source) (SetsBit notice.lock) CarOut
 
-unfoldable pub on_didv : ℕ → ℕ → Notice → JunctionRule
+unfoldable pub on_didv : ℕ → ℕ → Tag → JunctionRule
 on_didv low high notice = cond (within low high notice.source) (ClearsBit notice.lock) CarOut
 
 -- In a tour, by the car from the subring. "a token sets the train flag"; "idle clears train flag and tour flag"

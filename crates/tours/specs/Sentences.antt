@@ -2,7 +2,7 @@
 -- which of them applies, by the words that say when. Rules.antt goes by the car instead; that the two agree is said in Theorems.antt.
 use Rattle.std.specs.Prelude.{ℕ, Bool, cond, ◌&&◌}
 use Rattle.words.specs.Words.{has}
-use Rattle.cars.specs.declared.Notice.{Notice}
+use Rattle.cars.specs.declared.Tag.{Tag}
 use Rattle.cars.specs.declared.Car.{Car}
 use Rattle.cars.specs.Kinds.{is_idle_car, is_token_car, reqp_that, gotp_that, didv_that}
 use Rattle.tours.specs.declared.JunctionRule.{JunctionRule}
@@ -31,7 +31,7 @@ sentence_number Ends = 8
 sentence_number Drops = 9
 
 -- "from a node of this subring"
-unfoldable pub from_subring : ℕ → ℕ → Notice → Bool
+unfoldable pub from_subring : ℕ → ℕ → Tag → Bool
 from_subring low high notice = within low high notice.source
 
 -- outside a tour: an exception comes before what it is excepted from

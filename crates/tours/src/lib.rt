@@ -2,14 +2,14 @@
 #![tactic(auto)]
 
 ghost use Rattle.std.specs.Prelude.{◌≡◌};
-ghost use Rattle.tours.specs.Rules.{within, outside, if_train, on_gotp, on_didv, in_tour};
+ghost use Rattle.tours.specs.Rules.{within, outside, in_tour};
 ghost use Rattle.tours.specs.Sentences.{sentence_number, outside_sentence, tour_sentence};
 
-use cars::{Car, Notice, Tag};
+use cars::{Car, Tag};
 
 // Which sentence of the junction's rules applies. Outside a tour: the arrival goes on, a reqp fails, a tour begins.
 // In a tour: a car is dropped, the token or another car comes out, a notice sets or clears the word's bit, the tour ends.
-#[derive(Clone, Copy)]
+#[derive(Clone, Copy, Debug, PartialEq, Eq)]
 pub enum JunctionRule {
     GoesOn,
     FailsReqp(Tag),
@@ -22,84 +22,44 @@ pub enum JunctionRule {
     Ends,
 }
 
-// Whether a node is of the subring whose nodes are numbered from `low` + 1 to `high`.
-pub fn within(low: u8, high: u8, node: u8) -> bool
-    ensures { result ≡ within low high node }
+// The nodes within a junction: they are numbered from `low` + 1 to `high`.
+#[derive(Clone, Copy, Debug, PartialEq, Eq)]
+pub struct Span {
+    pub low: u8,
+    pub high: u8,
+}
+
+// Whether a node is one of those within the junction.
+#[tactic(auto, unfolding(crate::specs::Rules::within))]
+pub fn within(span: Span, node: u8) -> bool
+    ensures { result ≡ within span.low span.high node }
 {
-    if low < node {
-        return node <= high;
-    }
-    false
+    span.low < node && node <= span.high
 }
 
 // Outside a tour, by the car that arrives on the main side.
+#[tactic(auto, using(crate::proofs::Sentences::said_outside), unfolding(crate::specs::Rules::outside))]
 pub fn outside(word: u64, wants: bool, arrival: Car) -> JunctionRule
     ensures { (result ≡ outside word wants arrival) × (sentence_number result ≡ outside_sentence word wants arrival) }
 {
     match arrival {
-        Car::Idle => JunctionRule::GoesOn,
-        Car::Token => {
-            if wants {
-                return JunctionRule::Begins;
-            }
-            JunctionRule::GoesOn
-        }
-        Car::Null => JunctionRule::GoesOn,
-        Car::Reqp(tag) => {
-            if words::has(word, tag.lock) {
-                return JunctionRule::FailsReqp(tag);
-            }
-            JunctionRule::GoesOn
-        }
-        Car::Failp(tag) => JunctionRule::GoesOn,
-        Car::Dov(tag) => JunctionRule::GoesOn,
-        Car::Gotp(notice) => JunctionRule::GoesOn,
-        Car::Didv(notice) => JunctionRule::GoesOn,
+        Car::Token if wants => JunctionRule::Begins,
+        Car::Reqp(tag) if words::has(word, tag.lock) => JunctionRule::FailsReqp(tag),
+        _ => JunctionRule::GoesOn,
     }
-}
-
-// In a tour: what the train flag lets out.
-fn if_train(train: bool, rule: JunctionRule) -> JunctionRule
-    ensures { result ≡ if_train train rule }
-{
-    if train {
-        return rule;
-    }
-    JunctionRule::Drops
-}
-
-// In a tour: a gotp comes out of the subring.
-fn on_gotp(low: u8, high: u8, notice: Notice) -> JunctionRule
-    ensures { result ≡ on_gotp low high notice }
-{
-    if within(low, high, notice.source) {
-        return JunctionRule::SetsBit(notice.lock);
-    }
-    JunctionRule::CarOut
-}
-
-// In a tour: a didv comes out of the subring.
-fn on_didv(low: u8, high: u8, notice: Notice) -> JunctionRule
-    ensures { result ≡ on_didv low high notice }
-{
-    if within(low, high, notice.source) {
-        return JunctionRule::ClearsBit(notice.lock);
-    }
-    JunctionRule::CarOut
 }
 
 // In a tour, by the car that comes out of the subring.
-pub fn in_tour(train: bool, low: u8, high: u8, out: Car) -> JunctionRule
-    ensures { (result ≡ in_tour train low high out) × (sentence_number result ≡ tour_sentence train low high out) }
+#[tactic(auto, using(crate::proofs::Sentences::said_in_tour), unfolding(crate::specs::Rules::in_tour, crate::specs::Rules::if_train, crate::specs::Rules::on_gotp, crate::specs::Rules::on_didv))]
+pub fn in_tour(train: bool, span: Span, out: Car) -> JunctionRule
+    ensures { (result ≡ in_tour train span.low span.high out) × (sentence_number result ≡ tour_sentence train span.low span.high out) }
 {
     match out {
-        Car::Idle => if_train(train, JunctionRule::Ends),
         Car::Token => JunctionRule::TokenOut,
-        Car::Null => if_train(train, JunctionRule::CarOut),
-        Car::Reqp(tag) => if_train(train, JunctionRule::CarOut),
-        Car::Failp(tag) => if_train(train, JunctionRule::CarOut),
-        Car::Dov(tag) => if_train(train, JunctionRule::CarOut),
-        Car::Gotp(notice) => if_train(train, on_gotp(low, high, notice)),
-        Car::Didv(notice) => if_train(train, on_didv(low, high, notice)),
+        _ if !train => JunctionRule::Drops,
+        Car::Idle => JunctionRule::Ends,
+        Car::Gotp(tag) if within(span, tag.source) => JunctionRule::SetsBit(tag.lock),
+        Car::Didv(tag) if within(span, tag.source) => JunctionRule::ClearsBit(tag.lock),
+        _ => JunctionRule::CarOut,
     }
 }

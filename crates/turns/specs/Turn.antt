@@ -1,5 +1,5 @@
 -- 01, "User node": what each of the nine rules does, and the event that it gives. The in-train flag afterwards is `flag_after`, of crate cars.
-use Rattle.std.specs.Prelude.{ℕ, cond}
+use Rattle.std.specs.Prelude.{ℕ, cond, Option, Some, None}
 use Rattle.words.specs.Words.{with_lock, without_lock}
 use Rattle.cars.specs.Cars.{multiring, flag_after}
 use Rattle.cars.specs.declared.Car.{Car}
@@ -10,7 +10,7 @@ use Rattle.usernode.specs.declared.Activity.TheVariants.{Idle as Resting, Waitin
 use Rattle.usernode.specs.declared.Rule.{Rule}
 use Rattle.usernode.specs.declared.Rule.TheVariants.{Passes, SendsReqp, SendsDov, SendsDidv, OwnReqp, OwnFailp, FailsReqp, OwnDov, LosesLock}
 use Rattle.turns.specs.declared.Event.{Event}
-use Rattle.turns.specs.declared.Event.TheVariants.{Nothing, Granted, Failed, Lost, Back, Sent}
+use Rattle.turns.specs.declared.Event.TheVariants.{Granted, Failed, Lost, Back, Sent}
 use Rattle.turns.specs.declared.Turn.{Turn}
 use Rattle.usernode.specs.Node.{let_go}
 use Rattle.usernode.specs.Rules.{rule}
@@ -37,16 +37,16 @@ apply rules me arrival node (LosesLock tag) = becomes node (Dov tag) node.activi
 apply rules me arrival node Passes = becomes node arrival node.activity node.held node.letting
 
 -- "G granted, N failp returned, L lost to a dov, B own dov back, D didv sent"
-unfoldable pub event_of : Rule → Event
-event_of (SendsReqp lock) = Nothing
-event_of (SendsDov lock) = Nothing
-event_of (SendsDidv lock) = Sent lock
-event_of (OwnReqp lock) = Granted lock
-event_of (OwnFailp lock) = Failed lock
-event_of (FailsReqp tag) = Nothing
-event_of (OwnDov lock) = Back lock
-event_of (LosesLock tag) = Lost tag.lock
-event_of Passes = Nothing
+unfoldable pub event_of : Rule → Option Event
+event_of (SendsReqp lock) = None
+event_of (SendsDov lock) = None
+event_of (SendsDidv lock) = Some (Sent lock)
+event_of (OwnReqp lock) = Some (Granted lock)
+event_of (OwnFailp lock) = Some (Failed lock)
+event_of (FailsReqp tag) = None
+event_of (OwnDov lock) = Some (Back lock)
+event_of (LosesLock tag) = Some (Lost tag.lock)
+event_of Passes = None
 
 -- a node's turn in a step: by the rules, the node's number and the car that arrives
 unfoldable pub turn : ℕ → ℕ → Car → Node → Turn
@@ -54,18 +54,18 @@ turn rules me arrival node =
     record { node = apply rules me arrival node (rule node me arrival); event = event_of (rule node me arrival) }
 
 -- the letter and the lock of an event's line; no event has letter 0 and lock 0
-unfoldable pub event_letter : Event → ℕ
-event_letter Nothing = 0
-event_letter (Granted lock) = 71
-event_letter (Failed lock) = 78
-event_letter (Lost lock) = 76
-event_letter (Back lock) = 66
-event_letter (Sent lock) = 68
+unfoldable pub event_letter : Option Event → ℕ
+event_letter None = 0
+event_letter (Some (Granted lock)) = 71
+event_letter (Some (Failed lock)) = 78
+event_letter (Some (Lost lock)) = 76
+event_letter (Some (Back lock)) = 66
+event_letter (Some (Sent lock)) = 68
 
-unfoldable pub event_lock : Event → ℕ
-event_lock Nothing = 0
-event_lock (Granted lock) = lock
-event_lock (Failed lock) = lock
-event_lock (Lost lock) = lock
-event_lock (Back lock) = lock
-event_lock (Sent lock) = lock
+unfoldable pub event_lock : Option Event → ℕ
+event_lock None = 0
+event_lock (Some (Granted lock)) = lock
+event_lock (Some (Failed lock)) = lock
+event_lock (Some (Lost lock)) = lock
+event_lock (Some (Back lock)) = lock
+event_lock (Some (Sent lock)) = lock

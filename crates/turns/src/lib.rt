@@ -10,9 +10,8 @@ use usernode::Node;
 mod deeds;
 
 // What a step did at a node, with the lock: granted, failp returned, lost to a dov, own dov back, didv sent.
-#[derive(Clone, Copy)]
+#[derive(Clone, Copy, Debug, PartialEq, Eq)]
 pub enum Event {
-    Nothing,
     Granted(u8),
     Failed(u8),
     Lost(u8),
@@ -20,42 +19,47 @@ pub enum Event {
     Sent(u8),
 }
 
-// A node after its turn in a step, and the event that its rule gave.
-#[derive(Clone, Copy)]
+// A node after its turn in a step, and the event that its rule gave, if any.
+#[derive(Clone, Copy, Debug, PartialEq, Eq)]
 pub struct Turn {
     pub node: Node,
-    pub event: Event,
+    pub event: Option<Event>,
 }
 
-// The event's letter in a line; 0 for no event.
-pub fn event_letter(event: Event) -> u8
+// The event's letter in a line; 0 for no event. It and the lock are promised of every outcome of a turn.
+#[tactic(auto, unfolding(crate::specs::Turn::event_letter))]
+pub fn event_letter(event: Option<Event>) -> u8
     ensures { result ≡ event_letter event }
 {
     match event {
-        Event::Nothing => 0,
-        Event::Granted(lock) => b'G',
-        Event::Failed(lock) => b'N',
-        Event::Lost(lock) => b'L',
-        Event::Back(lock) => b'B',
-        Event::Sent(lock) => b'D',
+        None => 0,
+        Some(Event::Granted(_)) => b'G',
+        Some(Event::Failed(_)) => b'N',
+        Some(Event::Lost(_)) => b'L',
+        Some(Event::Back(_)) => b'B',
+        Some(Event::Sent(_)) => b'D',
     }
 }
 
 // The event's lock; 0 for no event.
-pub fn event_lock(event: Event) -> u8
+#[tactic(auto, unfolding(crate::specs::Turn::event_lock))]
+pub fn event_lock(event: Option<Event>) -> u8
     ensures { result ≡ event_lock event }
 {
     match event {
-        Event::Nothing => 0,
-        Event::Granted(lock) => lock,
-        Event::Failed(lock) => lock,
-        Event::Lost(lock) => lock,
-        Event::Back(lock) => lock,
-        Event::Sent(lock) => lock,
+        None => 0,
+        Some(
+            Event::Granted(lock)
+            | Event::Failed(lock)
+            | Event::Lost(lock)
+            | Event::Back(lock)
+            | Event::Sent(lock),
+        ) => lock,
     }
 }
 
 // A node's turn in a step: `me` is its number, `arrival` the car that its predecessor sent before the step.
+#[tactic(auto, unfolding(crate::specs::Turn::turn))]
 pub fn turn_of(node: Node, rules: u8, me: u8, arrival: Car) -> Turn
     ensures { result ≡ turn rules me arrival node }
 {

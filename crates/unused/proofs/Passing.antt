@@ -11,7 +11,7 @@ use Rattle.positions.specs.Ring.{Ring, nodes_in, junctions_in}
 use Rattle.positions.specs.Reading.{Reading}
 use Rattle.plan.specs.Plan.{heads_in_range, positions_read, ring_of, junctions_allowed, in_range, node_count, junction_count}
 use Rattle.usernode.specs.Sound.{node_sound}
-use Rattle.zeronode.specs.declared.Slot.{Slot}
+use Rattle.cars.specs.declared.Car.{Car}
 use Rattle.zeronode.specs.Rules.{empty_slot}
 use Rattle.zeronode.specs.Sound.{place_names, zero_sound}
 use Rattle.junction.specs.Sound.{junction_sound}
@@ -87,7 +87,7 @@ module _ (a b : State) (g : Agree a (like a b)) where
   zero_same n =
       ap (λ (t : Bool). leb a.zeroth.count 65 && car_names a.plan.rules n a.plan.locks a.zeroth.car && t)
       (every_same _ _ a.zeroth.count
-      (λ place below. ap (λ (slot : Slot). car_names a.plan.rules n a.plan.locks slot.car)
+      (λ place below. ap (λ (car : Car). car_names a.plan.rules n a.plan.locks car)
       (same_at empty_slot a.zeroth.count a.zeroth.queue b.zeroth.queue g.zeroth.queue place below)))
 
   -- 13 refuses both, or neither

@@ -2,6 +2,7 @@
 use Prim.Native.Nat.{ℕ, zero, suc, ◌+◌, ◌-◌, ◌≤◌, ◌<◌}
 use mathlib.Core.Path.{◌≡◌, refl, ◌∙◌, sym, ap, subst}
 use mathlib.Core.Bool.{Bool, true, false, cond, ◌&&◌}
+use mathlib.Core.Logic.{⊎_elim}
 use mathlib.Core.List.{List, [], ◌∷◌}
 use native.Mathlib.Omega.{arith}
 use lib.Dec.{eqb, ltb, leb}
@@ -9,18 +10,17 @@ use lib.ListN.{length, get_or, take, drop, set, length-set, length-drop}
 use lib.Seq.{drop-set-lt, take-nil, drop-nil}
 use borrow.Author.Tests.{eqb-false}
 use Rattle.cars.specs.declared.Car.{Car}
-use Rattle.zeronode.specs.declared.Slot.{Slot}
 use Rattle.zeronode.specs.declared.ZeroNode.{ZeroNode}
 use Rattle.zeronode.specs.declared.ZeroRule.{ZeroRule}
 use Rattle.zeronode.specs.declared.ZeroRule.TheVariants.{SendsIdle, SendsToken, SendsHead}
 use Rattle.zeronode.specs.Rules.{empty_slot, on_head, zero_rule, keeps}
 use Rattle.zeronode.specs.Turn.{shifted, head_off, sends, appended, arrives, zero_turn, count_left, overflows}
-use Rattle.zeronode.proofs.Queue.{token_from_queue, head_from_queue}
+use Rattle.zeronode.proofs.Queue.{idle_or_queued}
 use Rattle.unused.specs.Unused.{QueueComesBack, SameZero}
 use Rattle.unused.proofs.Lists.{same_at, same_next, put_in, put-length, put_behind, put_there, put_same}
 
 -- a queue of k + 1 cars without its head: the idle place is put in behind the k cars that are left
-shifted-put : (queue : List Slot) (k : ℕ) → shifted queue (suc k) ≡ put_in k empty_slot (drop 1 queue)
+shifted-put : (queue : List Car) (k : ℕ) → shifted queue (suc k) ≡ put_in k empty_slot (drop 1 queue)
 unfolding shifted
 shifted-put [] k =
     let e : suc k - 1 ≡ k = omega arith in
@@ -41,17 +41,17 @@ record Sent (before after : ZeroNode) : Type 0 where
   least : before.count ≤ after.count + 1
 
 -- what is beyond the count stays where the head is taken off
-shifted_behind : (queue : List Slot) (k place : ℕ) → suc k ≤ place → drop place (shifted queue (suc k)) ≡ drop place queue
+shifted_behind : (queue : List Car) (k place : ℕ) → suc k ≤ place → drop place (shifted queue (suc k)) ≡ drop place queue
 shifted_behind queue k zero l = absurd (omega arith)
 shifted_behind [] k (suc place) l = rw shifted-put (put_behind k place empty_slot [] (omega arith) ∙ drop-nil place)
 shifted_behind (head ∷ queue) k (suc place) l = rw shifted-put (put_behind k place empty_slot queue (omega arith))
 
 -- a zero node of its parts
-abbrev zero_of : Car → List Slot → ℕ → ZeroNode
+abbrev zero_of : Car → List Car → ℕ → ZeroNode
 zero_of car queue count = record { car = car; queue = queue; count = count }
 
 -- the head taken off a queue of count cars
-sent_head : (old : Car) (queue : List Slot) (count : ℕ) (car : Car) → 0 < count → Sent (zero_of old queue count) (head_off (zero_of old queue count) car)
+sent_head : (old : Car) (queue : List Car) (count : ℕ) (car : Car) → 0 < count → Sent (zero_of old queue count) (head_off (zero_of old queue count) car)
 unfolding head_off
 sent_head old queue zero car some = absurd (omega arith)
 sent_head old queue (suc k) car some =
@@ -68,8 +68,8 @@ sent_head old queue (suc k) car some =
 sent : (z : ZeroNode) (arrival : Car) (rule : ZeroRule) → zero_rule z arrival ≡ rule → Sent z (sends z rule)
 unfolding sends
 sent z arrival SendsIdle e = record { places = λ place l. refl; idle = λ place l m. absurd (omega arith); most = omega arith; least = omega arith }
-sent z arrival SendsToken e = sent_head z.car z.queue z.count _ (token_from_queue z arrival e)
-sent z arrival (SendsHead head) e = sent_head z.car z.queue z.count head (head_from_queue z arrival head e)
+sent z arrival SendsToken e = sent_head z.car z.queue z.count _ (⊎_elim (λ idle. cc) (λ some. some) (idle_or_queued z arrival))
+sent z arrival (SendsHead head) e = sent_head z.car z.queue z.count head (⊎_elim (λ idle. cc) (λ some. some) (idle_or_queued z arrival))
 
 -- then the arrival is appended, or not
 arrives_back : (z x : ZeroNode) (arrival : Car) → Sent z x → QueueComesBack z (arrives x arrival)
@@ -80,7 +80,7 @@ arrives_back z x arrival s = go (keeps arrival) (ltb x.count 65)
     kept = record { places = λ place l m. s.places place l; idle = s.idle; taken = omega (arith, s.most); given = s.least }
 
     go : (keep room : Bool)
-        → QueueComesBack z (cond keep (cond room (zero_of x.car (set x.queue x.count (record { car = arrival })) (x.count + 1)) x) x)
+        → QueueComesBack z (cond keep (cond room (zero_of x.car (set x.queue x.count arrival) (x.count + 1)) x) x)
     go true true =
         record {
           places = λ place l m. drop-set-lt place x.queue x.count _ (omega arith) ∙ s.places place l;
@@ -101,25 +101,25 @@ turn_back z arrival = go (leb z.count 65)
     go false = stays z
 
 -- what is behind the head of the first places
-drop-take : (k : ℕ) (queue : List Slot) → take k (drop 1 queue) ≡ drop 1 (take (suc k) queue)
+drop-take : (k : ℕ) (queue : List Car) → take k (drop 1 queue) ≡ drop 1 (take (suc k) queue)
 drop-take k [] = take-nil k
 drop-take k (head ∷ queue) = refl
 
 -- without their heads queues are as long as each other if they were
-tail_long : (queue other : List Slot) → length queue ≡ length other → length (drop 1 queue) ≡ length (drop 1 other)
+tail_long : (queue other : List Car) → length queue ≡ length other → length (drop 1 queue) ≡ length (drop 1 other)
 tail_long queue other long = length-drop 1 queue ∙ ap (λ (n : ℕ). n - 1) long ∙ sym (length-drop 1 other)
 
 -- queues that are the same up to the count are so again with the head taken off
-shifted_same : (count : ℕ) (queue other : List Slot) → take count queue ≡ take count other → length queue ≡ length other
+shifted_same : (count : ℕ) (queue other : List Car) → take count queue ≡ take count other → length queue ≡ length other
     → take (count - 1) (shifted queue count) ≡ take (count - 1) (shifted other count)
 shifted_same zero queue other e long = refl
 shifted_same (suc k) queue other e long =
     let less : suc k - 1 ≡ k = omega arith in
-    let rest : take k (drop 1 queue) ≡ take k (drop 1 other) = drop-take k queue ∙ ap (λ (q : List Slot). drop 1 q) e ∙ sym (drop-take k other) in
+    let rest : take k (drop 1 queue) ≡ take k (drop 1 other) = drop-take k queue ∙ ap (λ (q : List Car). drop 1 q) e ∙ sym (drop-take k other) in
     rw (less, shifted-put queue k, shifted-put other k) (put_same k empty_slot (drop 1 queue) (drop 1 other) rest (tail_long queue other long))
 
 -- and as long as each other
-shifted_long : (count : ℕ) (queue other : List Slot) → length queue ≡ length other → length (shifted queue count) ≡ length (shifted other count)
+shifted_long : (count : ℕ) (queue other : List Car) → length queue ≡ length other → length (shifted queue count) ≡ length (shifted other count)
 unfolding shifted
 shifted_long zero queue other long = ap suc long
 shifted_long (suc k) queue other long =
@@ -131,18 +131,18 @@ by_places : (P : ZeroNode → Type 0) (z x : ZeroNode) → SameZero z x → P (z
 by_places P z x s holds = subst P (λ i. zero_of (s.car i) x.queue (s.count i)) holds
 
 -- zero nodes with queues that are the same up to the count
-module _ (car : Car) (queue other : List Slot) (count : ℕ) (e : take count queue ≡ take count other) (long : length queue ≡ length other) where
+module _ (car : Car) (queue other : List Car) (count : ℕ) (e : take count queue ≡ take count other) (long : length queue ≡ length other) where
   -- the same rule
   rule_same : (arrival : Car) → zero_rule (zero_of car queue count) arrival ≡ zero_rule (zero_of car other count) arrival
   unfolding zero_rule
   rule_same arrival = go (eqb count 0) refl
     where
       go : (b : Bool) → eqb count 0 ≡ b
-          → cond b SendsIdle (on_head (get_or queue 0 empty_slot).car arrival) ≡ cond b SendsIdle (on_head (get_or other 0 empty_slot).car arrival)
+          → cond b SendsIdle (on_head (get_or queue 0 empty_slot) arrival) ≡ cond b SendsIdle (on_head (get_or other 0 empty_slot) arrival)
       go true z = refl
       go false z =
           let some : 0 < count = omega (arith, eqb-false count 0 z) in
-          ap (λ (slot : Slot). on_head slot.car arrival) (same_at empty_slot count queue other e 0 some)
+          ap (λ (head : Car). on_head head arrival) (same_at empty_slot count queue other e 0 some)
 
   -- the same places where the head is taken off
   head_same : (sent : Car) → SameZero (head_off (zero_of car queue count) sent) (head_off (zero_of car other count) sent)
@@ -164,17 +164,14 @@ module _ (car : Car) (queue other : List Slot) (count : ℕ) (e : take count que
       same : SameZero (zero_of car queue count) (zero_of car other count)
       same = record { car = refl; count = refl; queue = e; places = long }
 
-      slot : Slot
-      slot = record { car = arrival }
-
-      go : (keep room : Bool) → SameZero (cond keep (cond room (zero_of car (set queue count slot) (count + 1)) (zero_of car queue count)) (zero_of car queue count))
-          (cond keep (cond room (zero_of car (set other count slot) (count + 1)) (zero_of car other count)) (zero_of car other count))
+      go : (keep room : Bool) → SameZero (cond keep (cond room (zero_of car (set queue count arrival) (count + 1)) (zero_of car queue count)) (zero_of car queue count))
+          (cond keep (cond room (zero_of car (set other count arrival) (count + 1)) (zero_of car other count)) (zero_of car other count))
       go true true =
           record {
             car = refl;
             count = refl;
-            queue = same_next count queue other slot long e;
-            places = length-set queue count slot ∙ long ∙ sym (length-set other count slot);
+            queue = same_next count queue other arrival long e;
+            places = length-set queue count arrival ∙ long ∙ sym (length-set other count arrival);
           }
       go true false = same
       go false room = same
@@ -199,7 +196,7 @@ turn_same z x arrival s = by_places (λ y. SameZero (zero_turn z arrival) (zero_
     go false = record { car = refl; count = refl; queue = s.queue; places = s.places }
 
 -- how many cars are left is read off the count
-left_same : (z : ZeroNode) (other : List Slot) (rule : ZeroRule) → count_left z rule ≡ count_left (zero_of z.car other z.count) rule
+left_same : (z : ZeroNode) (other : List Car) (rule : ZeroRule) → count_left z rule ≡ count_left (zero_of z.car other z.count) rule
 unfolding count_left
 left_same z other SendsIdle = refl
 left_same z other SendsToken = refl

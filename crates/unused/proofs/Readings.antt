@@ -7,9 +7,10 @@ use native.Mathlib.Nat.{add-zero}
 use lib.Dec.{eqb, leb, ltb}
 use lib.ListN.{length, get_or, take}
 use borrow.Author.Tests.{ltb-true}
+use Rattle.std.specs.Prelude.{Option, Some, None}
 use Rattle.lists.proofs.Tests.{by_value}
 use Rattle.positions.specs.declared.Position.{Position}
-use Rattle.positions.specs.declared.Position.TheVariants.{Node, Users, Wrong}
+use Rattle.positions.specs.declared.Position.TheVariants.{Node, Users}
 use Rattle.positions.specs.Ring.{users_only}
 use Rattle.positions.specs.Reading.{Reading, counted, joined, position_at, wrong, behind_user, behind_junction, onward, reading, main_ring}
 use Rattle.positions.proofs.Ends.{zero_other, small_other}
@@ -26,14 +27,14 @@ module _ (a b : List ℕ) (long : length a ≡ length b) where
   -- ---- what stands at a place
 
   -- a count that a list has there
-  abbrev count_at : ℕ → List ℕ → Position
-  count_at place values = cond (ltb place (length values)) (counted (get_or values place 0)) Wrong
+  abbrev count_at : ℕ → List ℕ → Option Position
+  count_at place values = cond (ltb place (length values)) (counted (get_or values place 0)) None
 
   count_same : (coming place : ℕ) → Same a b long true coming place → count_at place a ≡ count_at place b
   count_same coming place same =
-      by_value (λ t. cond t (counted (get_or a place 0)) Wrong ≡ cond t (counted (get_or b place 0)) Wrong) (ltb place (length a))
+      by_value (λ t. cond t (counted (get_or a place 0)) None ≡ cond t (counted (get_or b place 0)) None) (ltb place (length a))
       (λ e. ap counted (same_count a b long coming place (ltb-true _ _ e) same).0) (λ e. refl)
-      ∙ ap (λ (n : ℕ). cond (ltb place n) (counted (get_or b place 0)) Wrong) long
+      ∙ ap (λ (n : ℕ). cond (ltb place n) (counted (get_or b place 0)) None) long
 
   -- a junction of this value
   joined_same : (deeper : Bool) (coming place : ℕ) → Same a b long (eqb (get_or a place 0) 5) coming (place + 1)
@@ -42,19 +43,19 @@ module _ (a b : List ℕ) (long : length a ≡ length b) where
   joined_same false coming place same = refl
   joined_same true coming place same =
       let value = get_or a place 0 in
-      let with_count : Position → Position = λ count. cond (leb value 4) (Users value) count in
-      ap with_count (by_value (λ t. cond t (count_at (place + 1) a) Wrong ≡ cond t (count_at (place + 1) b) Wrong) (eqb value 5)
+      let with_count : Option Position → Option Position = λ count. cond (leb value 4) (Some (Users value)) count in
+      ap with_count (by_value (λ t. cond t (count_at (place + 1) a) None ≡ cond t (count_at (place + 1) b) None) (eqb value 5)
       (λ e. count_same coming (place + 1) (subst (λ (opening : Bool). Same a b long opening coming (place + 1)) e same)) (λ e. refl))
 
   position_same : (deeper : Bool) (coming place : ℕ) → Alike (suc coming) place → position_at deeper a place ≡ position_at deeper b place
   unfolding position_at
   position_same deeper coming place same =
-      let at : List ℕ → ℕ → Position = λ values value. cond (eqb value 0) Node (joined deeper values place value) in
-      by_value (λ t. cond t (at a (get_or a place 0)) Wrong ≡ cond t (at b (get_or b place 0)) Wrong) (ltb place (length a))
+      let at : List ℕ → ℕ → Option Position = λ values value. cond (eqb value 0) (Some Node) (joined deeper values place value) in
+      by_value (λ t. cond t (at a (get_or a place 0)) None ≡ cond t (at b (get_or b place 0)) None) (ltb place (length a))
       (λ e. let byte = same_byte a b long coming place (ltb-true _ _ e) same in
-      ap (λ (p : Position). cond (eqb (get_or a place 0) 0) Node p) (joined_same deeper coming place byte.1) ∙ ap (at b) byte.0)
+      ap (λ (p : Option Position). cond (eqb (get_or a place 0) 0) (Some Node) p) (joined_same deeper coming place byte.1) ∙ ap (at b) byte.0)
       (λ e. refl)
-      ∙ ap (λ (n : ℕ). cond (ltb place n) (at b (get_or b place 0)) Wrong) long
+      ∙ ap (λ (n : ℕ). cond (ltb place n) (at b (get_or b place 0)) None) long
 
   -- ---- positions
 
@@ -75,7 +76,7 @@ module _ (a b : List ℕ) (long : length a ≡ length b) where
 
   -- by what the position at a place is
   onward_same : (depth count more place : ℕ) → ListSame depth → RestSame depth count more → Alike (suc count + more) place
-      → {deeper : Bool} {position : Position} → Stands a place deeper position
+      → {deeper : Bool} {position : Option Position} → Stands a place deeper position
       → onward (list_at a depth) (λ next. reading depth a count next) place position
       ≡ onward (list_at b depth) (λ next. reading depth b count next) place position
   unfolding onward listed

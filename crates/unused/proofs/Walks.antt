@@ -15,18 +15,19 @@ use Rattle.plan.proofs.Laws.{counted, junctions_counted}
 use Rattle.usernode.specs.declared.Node.{Node}
 use Rattle.usernode.specs.Node.{wants_train}
 use Rattle.usernode.specs.Astray.{astray}
+use Rattle.std.specs.Prelude.{Option}
+use Rattle.turns.specs.declared.Event.{Event}
 use Rattle.turns.specs.Turn.{turn}
 use Rattle.junction.specs.declared.Junction.{Junction}
 use Rattle.junction.specs.Turn.{junction_turn}
 use Rattle.ring.specs.declared.State.{State}
-use Rattle.ring.specs.declared.Happening.{Happening}
 use Rattle.ring.specs.Walk.{Walk, node_here, junction_here, turn_here, on_node, wanted, enters, leaves, along, setting_out, walk}
 use Rattle.unused.specs.Unused.{Agree}
 use Rattle.unused.proofs.Lists.{same_set}
 use Rattle.unused.proofs.Passing.{like, ring_same, node_same, junction_same}
 
 -- a walk, by its parts
-abbrev walk_of : ℕ → ℕ → Car → Bool → List Node → List Happening → List Junction → Walk
+abbrev walk_of : ℕ → ℕ → Car → Bool → List Node → List (Option Event) → List Junction → Walk
 walk_of passed turned last astray nodes events junctions =
     record { passed = passed; turned = turned; last = last; astray = astray; nodes = nodes; events = events; junctions = junctions }
 
@@ -43,7 +44,7 @@ past rules node w =
       last = node.car;
       astray = w.astray || astray node (w.passed + 1) w.last;
       nodes = set w.nodes w.passed (turn rules (w.passed + 1) w.last node).node;
-      events = set w.events w.passed (record { event = (turn rules (w.passed + 1) w.last node).event });
+      events = set w.events w.passed (turn rules (w.passed + 1) w.last node).event;
       junctions = w.junctions;
     }
 

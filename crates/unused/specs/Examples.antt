@@ -1,11 +1,11 @@
 -- That two states agree says nothing of their other places: here one is the start state, and the other has something else in every place beyond. First
 -- of a plan whose values are its positions, then of one with a junction inside a subring; and how many values plans out of range take.
 use Rattle.std.specs.Prelude.{ℕ, true, List, ◌∷◌, replicate}
+use Rattle.cars.specs.declared.Car.{Car}
 use Rattle.cars.specs.declared.Car.TheVariants.{Token, Reqp, Dov}
 use Rattle.plan.specs.declared.Plan.{Plan}
 use Rattle.usernode.specs.declared.Node.{Node}
 use Rattle.usernode.specs.declared.Activity.TheVariants.{ToSendDov}
-use Rattle.zeronode.specs.declared.Slot.{Slot}
 use Rattle.zeronode.specs.Rules.{empty_slot}
 use Rattle.junction.specs.declared.Junction.{Junction}
 use Rattle.ring.specs.declared.State.{State}
@@ -22,8 +22,8 @@ wild_node = record { car = Token; flag = true; activity = ToSendDov 9; held = 25
 unfoldable pub wild_junction : Junction
 wild_junction = record { main = Token; subring = Dov (record { lock = 9; source = 9 }); train = true; tour = true; word = 255 }
 
-unfoldable pub wild_slot : Slot
-wild_slot = record { car = Reqp (record { lock = 9; source = 9 }) }
+unfoldable pub wild_slot : Car
+wild_slot = Reqp (record { lock = 9; source = 9 })
 
 -- the start state, but for every place beyond the plan and the count
 unfoldable pub wild : State

@@ -6,63 +6,43 @@ use crate::{Activity, Node};
 use cars::{Car, Tag};
 
 // Whether this is waiting for a reqp for the lock.
+#[tactic(auto, unfolding(crate::specs::Astray::waits_reqp))]
 fn waits_reqp(activity: Activity, lock: u8) -> bool
     ensures { result ≡ waits_reqp activity lock }
 {
-    match activity {
-        Activity::Idle => false,
-        Activity::ToSendReqp(own) => false,
-        Activity::WaitingReqp(own) => own == lock,
-        Activity::ToSendDov(own) => false,
-        Activity::WaitingDov(own) => false,
-    }
+    matches!(activity, Activity::WaitingReqp(own) if own == lock)
 }
 
 // Whether this is waiting for a dov for the lock.
+#[tactic(auto, unfolding(crate::specs::Astray::waits_dov))]
 fn waits_dov(activity: Activity, lock: u8) -> bool
     ensures { result ≡ waits_dov activity lock }
 {
-    match activity {
-        Activity::Idle => false,
-        Activity::ToSendReqp(own) => false,
-        Activity::WaitingReqp(own) => false,
-        Activity::ToSendDov(own) => false,
-        Activity::WaitingDov(own) => own == lock,
-    }
+    matches!(activity, Activity::WaitingDov(own) if own == lock)
 }
 
 impl Node {
     // Whether the car is the node's own and the node is not ready for it; `waits`: it waits for that kind and lock.
+    #[tactic(auto, unfolding(crate::specs::Astray::unready))]
     fn unready(self, me: u8, tag: Tag, waits: bool) -> bool
         ensures { result ≡ unready self me tag waits }
     {
-        let source = tag.source;
-        if source == me {
-            if waits {
-                if self.flag {
-                    return self.had(tag.lock);
-                }
-                return true;
-            }
-            return true;
-        }
-        false
+        tag.source == me && (!waits || !self.flag || self.had(tag.lock))
     }
 
     // Whether a step refuses the car that arrives with 15.
+    #[tactic(auto, unfolding(crate::specs::Astray::astray))]
     pub fn astray(self, me: u8, arrival: Car) -> bool
         ensures { result ≡ astray self me arrival }
     {
-        let doing = self.activity;
         match arrival {
-            Car::Idle => false,
-            Car::Token => false,
-            Car::Null => false,
-            Car::Reqp(tag) => self.unready(me, tag, waits_reqp(doing, tag.lock)),
-            Car::Failp(tag) => self.unready(me, tag, waits_reqp(doing, tag.lock)),
-            Car::Dov(tag) => self.unready(me, tag, waits_dov(doing, tag.lock)),
-            Car::Gotp(notice) => false,
-            Car::Didv(notice) => false,
+            Car::Reqp(tag) | Car::Failp(tag) => self.unready(
+                me,
+                tag,
+                waits_reqp(self.activity, tag.lock),
+            ),
+            Car::Dov(tag) => self.unready(me, tag, waits_dov(self.activity, tag.lock)),
+            _ => false,
         }
     }
 }

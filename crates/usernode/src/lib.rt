@@ -11,7 +11,7 @@ mod rules;
 mod sound;
 
 // Nothing to do; a reqp or a dov to send, or sent and waited for, with its lock.
-#[derive(Clone, Copy)]
+#[derive(Clone, Copy, Debug, PartialEq, Eq, Hash)]
 pub enum Activity {
     Idle,
     ToSendReqp(u8),
@@ -21,7 +21,7 @@ pub enum Activity {
 }
 
 // The car it is sending, the in-train flag, the activity, the held word and the letting-go word.
-#[derive(Clone, Copy)]
+#[derive(Clone, Copy, Debug, PartialEq, Eq, Hash)]
 pub struct Node {
     pub car: Car,
     pub flag: bool,
@@ -32,7 +32,7 @@ pub struct Node {
 
 // The nine rules, 9 first since that is what a node does that rests, then 1 to 8 in their order (`rule_number`); each with what it needs
 // of the car or the node.
-#[derive(Clone, Copy)]
+#[derive(Clone, Copy, Debug, PartialEq, Eq)]
 pub enum Rule {
     Passes,
     SendsReqp(u8),
@@ -46,48 +46,39 @@ pub enum Rule {
 }
 
 // Whether there is nothing to do.
+#[tactic(auto, unfolding(crate::specs::Node::is_idle))]
 pub fn is_idle(activity: Activity) -> bool
     ensures { result ≡ is_idle activity }
 {
-    match activity {
-        Activity::Idle => true,
-        Activity::ToSendReqp(lock) => false,
-        Activity::WaitingReqp(lock) => false,
-        Activity::ToSendDov(lock) => false,
-        Activity::WaitingDov(lock) => false,
-    }
+    matches!(activity, Activity::Idle)
 }
 
 // The letting-go word where a held lock is given up.
+#[tactic(auto, unfolding(crate::specs::Node::let_go))]
 pub fn let_go(rules: u8, letting: u64, lock: u8) -> u64
     ensures { result ≡ let_go rules letting lock }
 {
     if cars::multiring(rules) {
-        return words::with_lock(letting, lock);
+        words::with_lock(letting, lock)
+    } else {
+        letting
     }
-    letting
 }
 
 impl Node {
     // Whether the node holds the lock or is letting it go.
+    #[tactic(auto, unfolding(crate::specs::Node::had))]
     pub fn had(self, lock: u8) -> bool
         ensures { result ≡ had self lock }
     {
-        if words::has(self.held, lock) {
-            return true;
-        }
-        words::has(self.letting, lock)
+        words::has(self.held, lock) || words::has(self.letting, lock)
     }
 
     // Whether the node wants a train: it has something to send, or waits, or has a lock to let go.
+    #[tactic(auto, unfolding(crate::specs::Node::wants_train))]
     pub fn wants_train(self) -> bool
         ensures { result ≡ wants_train self }
     {
-        let doing = self.activity;
-        let letting = self.letting;
-        if is_idle(doing) {
-            return letting != 0;
-        }
-        true
+        !is_idle(self.activity) || self.letting != 0
     }
 }

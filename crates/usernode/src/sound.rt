@@ -1,20 +1,21 @@
 // Number 13, of one node: nothing of it names what is missing, or what ring rules do not have.
-ghost use Rattle.std.specs.Prelude.{◌≡◌, ◌||◌, ℕ, ltb};
-ghost use Rattle.usernode.specs.Node.{is_idle};
-ghost use Rattle.usernode.specs.Sound.{activity_names, letting_allowed, node_sound};
+ghost use Rattle.std.specs.Prelude.{◌≡◌, ℕ};
+ghost use Rattle.usernode.specs.Sound.{lock_named, activity_names, letting_allowed, node_sound};
 
 use crate::{Activity, Node};
+use cars::Limits;
 
-// The lock of an activity; 0 where there is nothing to do.
-fn lock_of(activity: Activity) -> u8
-    ensures { (locks : ℕ) → activity_names locks activity ≡ (is_idle activity || ltb result locks) }
+// The lock of an activity; none where there is nothing to do.
+#[tactic(auto, unfolding(crate::specs::Sound::activity_names))]
+fn lock_of(activity: Activity) -> Option<u8>
+    ensures { (locks : ℕ) → activity_names locks activity ≡ lock_named locks result }
 {
     match activity {
-        Activity::Idle => 0,
-        Activity::ToSendReqp(lock) => lock,
-        Activity::WaitingReqp(lock) => lock,
-        Activity::ToSendDov(lock) => lock,
-        Activity::WaitingDov(lock) => lock,
+        Activity::Idle => None,
+        Activity::ToSendReqp(lock)
+        | Activity::WaitingReqp(lock)
+        | Activity::ToSendDov(lock)
+        | Activity::WaitingDov(lock) => Some(lock),
     }
 }
 
@@ -22,42 +23,30 @@ fn lock_of(activity: Activity) -> u8
 fn activity_names(locks: u8, activity: Activity) -> bool
     ensures { result ≡ activity_names locks activity }
 {
-    let lock = lock_of(activity);
-    if crate::is_idle(activity) {
-        return true;
+    match lock_of(activity) {
+        None => true,
+        Some(lock) => lock < locks,
     }
-    lock < locks
 }
 
 // Whether the rules allow this letting-go word.
+#[tactic(auto, unfolding(crate::specs::Sound::letting_allowed))]
 fn letting_allowed(rules: u8, letting: u64) -> bool
     ensures { result ≡ letting_allowed rules letting }
 {
-    if cars::multiring(rules) {
-        return true;
-    }
-    letting == 0
+    cars::multiring(rules) || letting == 0
 }
 
 impl Node {
     // Whether nothing of the node is what 13 refuses.
-    pub fn sound(self, rules: u8, nodes: u8, locks: u8) -> bool
-        ensures { result ≡ node_sound rules nodes locks self }
+    #[tactic(auto, unfolding(crate::specs::Sound::node_sound))]
+    pub fn sound(self, limits: Limits) -> bool
+        ensures { result ≡ node_sound limits.rules limits.nodes limits.locks self }
     {
-        let car = self.car;
-        let doing = self.activity;
-        if cars::car_names(rules, nodes, locks, car) {
-            if activity_names(locks, doing) {
-                if words::all_below(self.held, locks) {
-                    if words::all_below(self.letting, locks) {
-                        return letting_allowed(rules, self.letting);
-                    }
-                    return false;
-                }
-                return false;
-            }
-            return false;
-        }
-        false
+        cars::car_names(limits, self.car)
+            && activity_names(limits.locks, self.activity)
+            && words::all_below(self.held, limits.locks)
+            && words::all_below(self.letting, limits.locks)
+            && letting_allowed(limits.rules, self.letting)
     }
 }

@@ -9,8 +9,9 @@ use lib.Dec.{eqb, ltb, lit≤}
 use lib.ListN.{length, get_or, replicate, length-replicate}
 use borrow.Author.Tests.{ne_eqb, ltb-true, ltb-false}
 use Rattle.lists.proofs.Tests.{by_test, by_value}
+use Rattle.std.specs.Prelude.{Option, Some, None, is_some, unwrap_or}
 use Rattle.linereader.specs.declared.LineKind.{LineKind}
-use Rattle.linereader.specs.declared.LineKind.TheVariants.{NoKind, Deed, Lock, Last, Refusal}
+use Rattle.linereader.specs.declared.LineKind.TheVariants.{Deed, Lock, Last, Refusal}
 use Rattle.linereader.specs.declared.Part.{Part}
 use Rattle.linereader.specs.declared.Part.TheVariants.{Steps, Letter, Space, Numbers, Whole, Wrong}
 use Rattle.linereader.specs.declared.Scan.{Scan}
@@ -92,18 +93,18 @@ notes_of_lem letter (l ∷ rest) =
 
 -- ---- H lines
 
-abbrev is_lock : LineKind → Bool
-is_lock NoKind = false
-is_lock Deed = false
-is_lock Lock = true
-is_lock Last = false
-is_lock Refusal = false
+abbrev is_lock : Option LineKind → Bool
+is_lock None = false
+is_lock (Some Deed) = false
+is_lock (Some Lock) = true
+is_lock (Some Last) = false
+is_lock (Some Refusal) = false
 
 lock_letter : (letter : ℕ) → eqb letter 72 ≡ is_lock (kind_of letter)
 unfolding kind_of
 lock_letter letter = go (eqb letter 72) (eqb letter 69) (eqb letter 67) (eqb letter 81) (is_deed letter)
   where
-    go : (a b c d e : Bool) → a ≡ is_lock (cond a Lock (cond b Last (cond c Last (cond d Refusal (cond e Deed NoKind)))))
+    go : (a b c d e : Bool) → a ≡ is_lock (cond a (Some Lock) (cond b (Some Last) (cond c (Some Last) (cond d (Some Refusal) (cond e (Some Deed) None)))))
     go true b c d e = refl
     go false true c d e = refl
     go false false true d e = refl
@@ -111,7 +112,7 @@ lock_letter letter = go (eqb letter 72) (eqb letter 69) (eqb letter 67) (eqb let
     go false false false false true = refl
     go false false false false false = refl
 
-of_kind_lock : {kind : LineKind} {l : TextLine} → OfKind kind l → eqb l.letter 72 ≡ is_lock kind
+of_kind_lock : {kind : LineKind} {l : TextLine} → OfKind kind l → eqb l.letter 72 ≡ is_lock (Some kind)
 of_kind_lock {l = l} k = lock_letter l.letter ∙ ap is_lock k.of_kind
 
 count_append : (letter : ℕ) (one other : List TextLine) → count_of letter (one ++ other) ≡ count_of letter one + count_of letter other
@@ -156,13 +157,13 @@ refused-more : (refused : ℕ) → refused ≤ more refused
 unfolding more
 refused-more refused = by_test (λ (n : ℕ). refused ≤ n) (ltb refused (2 ^ 64 - 1)) (λ e. omega arith) (λ e. omega arith)
 
-line-keeps : (kind : LineKind) (scan : Scan) (g : Gather) → in_all g ≤ in_all (after_line kind scan g)
+line-keeps : (kind : Option LineKind) (scan : Scan) (g : Gather) → in_all g ≤ in_all (after_line kind scan g)
 unfolding after_line faulty deed_read lock_read last_read refusal_read
-line-keeps NoKind scan g = omega arith
-line-keeps Deed scan g = by_test (λ (h : Gather). in_all g ≤ in_all h) (eqb g.locks 0) (λ e. omega arith) (λ e. omega arith)
-line-keeps Lock scan g = by_test (λ (h : Gather). in_all g ≤ in_all h) (is_next_lock (first_of scan) g.locks) (λ e. omega arith) (λ e. omega arith)
-line-keeps Last scan g = omega (arith, run_more g.runs)
-line-keeps Refusal scan g = by_test (λ (h : Gather). in_all g ≤ in_all h) g.inside (λ e. omega arith) (λ e. omega (arith, refused-more g.refused))
+line-keeps None scan g = omega arith
+line-keeps (Some Deed) scan g = by_test (λ (h : Gather). in_all g ≤ in_all h) (eqb (unwrap_or g.run 0) 0) (λ e. omega arith) (λ e. omega arith)
+line-keeps (Some Lock) scan g = by_test (λ (h : Gather). in_all g ≤ in_all h) (is_next_lock (first_of scan) (unwrap_or g.run 0)) (λ e. omega arith) (λ e. omega arith)
+line-keeps (Some Last) scan g = omega (arith, run_more g.runs)
+line-keeps (Some Refusal) scan g = by_test (λ (h : Gather). in_all g ≤ in_all h) (is_some g.run) (λ e. omega arith) (λ e. omega (arith, refused-more g.refused))
 
 part_keeps : (part : Part) (scan : Scan) (g : Gather) → in_all g ≤ in_all (after_part part scan g)
 unfolding after_part inside_line faulty

@@ -2,7 +2,7 @@
 -- and the order of the verdicts by number.
 use Prim.Native.Nat.{ℕ, ◌+◌, ◌-◌, ◌^◌, ◌≤◌, ◌<◌, min}
 use mathlib.Core.Path.{◌≡◌, refl, sym, ap, subst, ◌∙◌}
-use mathlib.Core.Bool.{Bool, true, false, cond, ◌&&◌, ◌||◌, true≢false}
+use mathlib.Core.Bool.{Bool, true, cond, ◌&&◌, ◌||◌, true≢false}
 use mathlib.Core.List.{List, [], ◌∷◌, ◌++◌, append_assoc, append-nil}
 use native.Mathlib.Omega.{arith}
 use lib.Dec.{eqb, ltb, leb}
@@ -10,8 +10,8 @@ use lib.ListN.{length, get_or}
 use borrow.Author.Tests.{eq-eqb, le-leb, lt-ltb, le-ltb, eqb-true, leb-true, ltb-true, ltb-false}
 use Rattle.lists.proofs.Laws.{and_left, and_right}
 use Rattle.lists.proofs.Tests.{by_test, by_value, and_both, or_second, or_by_first, or_by_second}
+use Rattle.std.specs.Prelude.{Option, Some, None, is_some}
 use Rattle.gather.specs.declared.Fault.{Fault}
-use Rattle.gather.specs.declared.Fault.TheVariants.{Fine, NoLine, DeedBehindLock, LockOutOfOrder, RefusalInside, NoNewline, NoLastLine}
 use Rattle.gather.specs.declared.Gather.{Gather}
 use Rattle.gather.specs.Gathering.{start_gather, is_fine, at_line_start, end_fault, fault_of, after_all}
 use Rattle.gather.specs.Texts.{TextLine, line_text, lines_text, Deeds, LocksFrom, RunLines, Piece, ran, left_out, Pieces, piece_text, pieces_text, runs_in, refused_in}
@@ -66,15 +66,15 @@ unfolding pieces_text
 one_text piece = append-nil (piece_text piece)
 
 -- a text that ends well had no fault
-fine_on_the_way : (g : Gather) → fault_of g ≡ Fine → is_fine g.fault ≡ true
+fine_on_the_way : (g : Gather) → fault_of g ≡ None → is_fine g.fault ≡ true
 unfolding fault_of is_fine
 fine_on_the_way g e =
     by_value (λ (b : Bool). is_fine g.fault ≡ true) (is_fine g.fault)
     (λ t. t)
-    (λ t. ap is_fine (ap (λ (b : Bool). cond b (end_fault (at_line_start g.scan.part g.scan.begun) g.inside) g.fault) (sym t) ∙ e))
+    (λ t. ap is_fine (ap (λ (b : Bool). cond b (end_fault (at_line_start g.scan.part (is_some g.scan.number)) (is_some g.run)) g.fault) (sym t) ∙ e))
 
 -- what gather says of it
-piece_fine : {piece : Piece} → Pieces (piece ∷ []) → fault_of (after_all start_gather (piece_text piece)) ≡ Fine
+piece_fine : {piece : Piece} → Pieces (piece ∷ []) → fault_of (after_all start_gather (piece_text piece)) ≡ None
 piece_fine {piece} right = ap (λ (t : List ℕ). fault_of (after_all start_gather t)) (sym (one_text piece)) ∙ (gathered right).fine
 
 run-counted : {run : RunLines} → Pieces (ran run ∷ []) → (after_all start_gather (piece_text (ran run))).runs ≡ 1
@@ -157,18 +157,14 @@ unfolding by_notes
 by_notes_other this verdict notes later here there =
     by_test (λ (j : Judged). j.verdict ≡ this → ⊥) (ltb 0 notes.count) (λ e. here) (λ e. there)
 
--- verdicts are told apart by their numbers
-apart : (verdict other : Verdict) → eqb (verdict_number verdict) (verdict_number other) ≡ false → verdict ≡ other → ⊥
-apart verdict other e same = true≢false (sym (eq-eqb (verdict_number verdict) (verdict_number other) (ap verdict_number same)) ∙ e)
-
 worst_is-not : (refusal actions cut lost failed : Noted) → (worst refusal actions cut lost failed).verdict ≡ Incomplete → ⊥
 unfolding worst without verdict_number
 worst_is-not refusal actions cut lost failed =
-    by_notes_other Incomplete Refused refusal _ (apart Refused Incomplete refl)
-    (by_notes_other Incomplete RefusedActions actions _ (apart RefusedActions Incomplete refl)
-    (by_notes_other Incomplete Cut cut _ (apart Cut Incomplete refl)
-    (by_notes_other Incomplete LocksLost lost _ (apart LocksLost Incomplete refl)
-    (by_notes_other Incomplete TakesFailed failed _ (apart TakesFailed Incomplete refl) (apart Good Incomplete refl)))))
+    by_notes_other Incomplete Refused refusal _ (λ (e : Refused ≡ Incomplete). cc)
+    (by_notes_other Incomplete RefusedActions actions _ (λ (e : RefusedActions ≡ Incomplete). cc)
+    (by_notes_other Incomplete Cut cut _ (λ (e : Cut ≡ Incomplete). cc)
+    (by_notes_other Incomplete LocksLost lost _ (λ (e : LocksLost ≡ Incomplete). cc)
+    (by_notes_other Incomplete TakesFailed failed _ (λ (e : TakesFailed ≡ Incomplete). cc) (λ (e : Good ≡ Incomplete). cc)))))
 
 pub whole_runs_are-not : WholeRunsAreNot
 unfolding worst_line
@@ -185,15 +181,10 @@ was_whole w other =
     (λ (b : Bool). ((cond b (worst w.refusal w.actions w.cut w.lost w.failed) (without Incomplete)).verdict ≡ Incomplete → ⊥) → b ≡ true)
     (is_whole w) (λ e n. refl) (λ e n. absurd (n refl)) other
 
-only_fine : (fault : Fault) → is_fine fault ≡ true → fault ≡ Fine
+only_fine : (fault : Option Fault) → is_fine fault ≡ true → fault ≡ None
 unfolding is_fine
-only_fine Fine e = refl
-only_fine NoLine e = absurd (true≢false (sym e))
-only_fine DeedBehindLock e = absurd (true≢false (sym e))
-only_fine LockOutOfOrder e = absurd (true≢false (sym e))
-only_fine RefusalInside e = absurd (true≢false (sym e))
-only_fine NoNewline e = absurd (true≢false (sym e))
-only_fine NoLastLine e = absurd (true≢false (sym e))
+only_fine None e = refl
+only_fine (Some fault) e = absurd (true≢false (sym e))
 
 -- one run, or one refused one, is one in all
 one_in_all : (runs refused locks : ℕ) → (is_a_run runs refused locks || is_a_refusal runs refused) ≡ true → runs + refused ≡ 1
@@ -248,7 +239,7 @@ all_else_is_incomplete text other =
     let stands : w.gather ≡ g = same_gather text start_watch in
     let test : is_whole w ≡ true = was_whole w other in
     let counts : Bool = is_a_run w.gather.runs w.gather.refused w.locks.count || is_a_refusal w.gather.runs w.gather.refused in
-    let fine : fault_of g ≡ Fine = ap fault_of (sym stands) ∙ only_fine (fault_of w.gather) (and_left (is_fine (fault_of w.gather)) counts test) in
+    let fine : fault_of g ≡ None = ap fault_of (sym stands) ∙ only_fine (fault_of w.gather) (and_left (is_fine (fault_of w.gather)) counts test) in
     let found = nothing_else_is_fine text fine in
     let all : in_all (after_all start_gather (pieces_text found.pieces)) ≡ 1 =
     ap (λ (t : List ℕ). in_all (after_all start_gather t)) (sym found.same) ∙ ap in_all (sym stands)
@@ -285,15 +276,15 @@ no_line letter lines e = omega (arith, e)
 pub good_has_no_bad_line : GoodHasNoBadLine
 unfolding worst_line worst verdict_number
 good_has_no_bad_line text good =
-    let one = all_else_is_incomplete text (λ e. apart Good Incomplete refl (sym good ∙ e)) in
+    let one = all_else_is_incomplete text (λ (e : (verdict_of text).verdict ≡ Incomplete). cc) in
     let lines : List TextLine = lines_in one.piece in
     let told : (worst_line lines).verdict ≡ Good =
     ap (λ (j : Judged). j.verdict) (sym (the_worst_line_decides one.piece one.right one.fit) ∙ ap verdict_of (sym one.same)) ∙ good in
-    let refusal = not_noted Refused (notes_of 81 lines) _ (apart Refused Good refl) told in
-    let actions = not_noted RefusedActions (notes_of 88 lines) _ (apart RefusedActions Good refl) refusal.next in
-    let cut = not_noted Cut (notes_of 67 lines) _ (apart Cut Good refl) actions.next in
-    let lost = not_noted LocksLost (notes_of 76 lines) _ (apart LocksLost Good refl) cut.next in
-    let failed = not_noted TakesFailed (notes_of 78 lines) _ (apart TakesFailed Good refl) lost.next in
+    let refusal = not_noted Refused (notes_of 81 lines) _ (λ (e : Refused ≡ Good). cc) told in
+    let actions = not_noted RefusedActions (notes_of 88 lines) _ (λ (e : RefusedActions ≡ Good). cc) refusal.next in
+    let cut = not_noted Cut (notes_of 67 lines) _ (λ (e : Cut ≡ Good). cc) actions.next in
+    let lost = not_noted LocksLost (notes_of 76 lines) _ (λ (e : LocksLost ≡ Good). cc) cut.next in
+    let failed = not_noted TakesFailed (notes_of 78 lines) _ (λ (e : TakesFailed ≡ Good). cc) lost.next in
     record {
       one = one;
       no_refusal = no_line 81 lines refusal.none;

@@ -9,8 +9,9 @@ use lib.Dec.{eqb, lit<, lit≤}
 use lib.ListN.{get_or}
 use lib.Seq.{get_or-take}
 use Rattle.lists.proofs.Tests.{by_test, by_value}
+use Rattle.std.specs.Prelude.{Option, Some, None, is_some, unwrap_or}
 use Rattle.linereader.specs.declared.LineKind.{LineKind}
-use Rattle.linereader.specs.declared.LineKind.TheVariants.{NoKind, Deed, Lock, Last, Refusal}
+use Rattle.linereader.specs.declared.LineKind.TheVariants.{Deed, Lock, Last, Refusal}
 use Rattle.linereader.specs.declared.Part.{Part}
 use Rattle.linereader.specs.declared.Part.TheVariants.{Steps, Letter, Space, Numbers, Whole, Wrong}
 use Rattle.linereader.specs.declared.Scan.{Scan}
@@ -21,7 +22,7 @@ use Rattle.gather.specs.declared.Gather.{Gather}
 use Rattle.gather.specs.Gathering.{faulty, deed_read, lock_read, last_read, refusal_read, first_of, is_next_lock, after_line, inside_line as reading_on, after_part, is_fine, after_byte, after_all}
 use Rattle.gather.specs.Texts.{TextLine, line_text, lines_text}
 use Rattle.gather.proofs.Pieces.{pieces}
-use Rattle.gather.proofs.Lines.{goes_on, not_both, OneByte, one_byte, fault_stays, AtLine, scan_of, of_kind_line}
+use Rattle.gather.proofs.Lines.{goes_on, not_both, OneByte, one_byte, fault_stays, AtLine, scan_of, written-line}
 use Rattle.verdict.specs.declared.Noted.{Noted}
 use Rattle.verdict.specs.declared.Watch.{Watch}
 use Rattle.verdict.specs.Verdicts.{first_noted, one_more_note, noted, noted_if, inside_line, line_watched, is_whole_line, watch_part, watch_byte, watch_all}
@@ -115,18 +116,18 @@ line-watched l w at is =
     ∙ ap₂ (λ (s : Scan) (g : Gather). line_watched s g w) from (same_gather text w)
 
 -- behind it a line starts
-starts_again : (kind : LineKind) (scan : Scan) (g : Gather) → (after_line kind scan g).scan ≡ start_scan
+starts_again : (kind : Option LineKind) (scan : Scan) (g : Gather) → (after_line kind scan g).scan ≡ start_scan
 unfolding after_line faulty deed_read lock_read last_read refusal_read
-starts_again NoKind scan g = refl
-starts_again Deed scan g = by_test (λ (h : Gather). h.scan ≡ start_scan) (eqb g.locks 0) (λ e. refl) (λ e. refl)
-starts_again Lock scan g = by_test (λ (h : Gather). h.scan ≡ start_scan) (is_next_lock (first_of scan) g.locks) (λ e. refl) (λ e. refl)
-starts_again Last scan g = refl
-starts_again Refusal scan g = by_test (λ (h : Gather). h.scan ≡ start_scan) g.inside (λ e. refl) (λ e. refl)
+starts_again None scan g = refl
+starts_again (Some Deed) scan g = by_test (λ (h : Gather). h.scan ≡ start_scan) (eqb (unwrap_or g.run 0) 0) (λ e. refl) (λ e. refl)
+starts_again (Some Lock) scan g = by_test (λ (h : Gather). h.scan ≡ start_scan) (is_next_lock (first_of scan) (unwrap_or g.run 0)) (λ e. refl) (λ e. refl)
+starts_again (Some Last) scan g = refl
+starts_again (Some Refusal) scan g = by_test (λ (h : Gather). h.scan ≡ start_scan) (is_some g.run) (λ e. refl) (λ e. refl)
 
 line_behind : (l : TextLine) (g : Gather) → AtLine g → IsLine l.steps l.letter l.numbers → (after_all g (line_text l)).scan ≡ start_scan
 line_behind l g at is =
-    ap (λ (h : Gather). h.scan) (of_kind_line (kind_of l.letter) l g at (record { is_line = is; of_kind = refl })).stands
-    ∙ starts_again (kind_of l.letter) (scan_all start_scan (line_text l)) g
+    let w : Scan = scan_all start_scan (line_text l) in
+    ap (λ (h : Gather). h.scan) (written-line l g at is).stands ∙ starts_again (kind_of w.letter) w g
 
 -- what is fine at its end was fine on the way
 fine_before : (g : Gather) (rest : List ℕ) → is_fine (after_all g rest).fault ≡ true → is_fine g.fault ≡ true

@@ -1,25 +1,20 @@
 // The verdict, by what has been read of a schedule's text.
+#![tactic(auto, unfolding(gather::specs::Gathering::is_fine, crate::specs::Verdicts::verdict_number, crate::specs::Verdicts::is_bad, crate::specs::Verdicts::is_looked_at, crate::specs::Verdicts::no_notes, crate::specs::Verdicts::is_a_run, crate::specs::Verdicts::is_a_refusal, crate::specs::Verdicts::is_whole, crate::specs::Verdicts::by_notes, crate::specs::Verdicts::without, crate::specs::Verdicts::worst, crate::specs::Verdicts::judged))]
+
 ghost use Rattle.std.specs.Prelude.{◌≡◌};
-ghost use Rattle.verdict.specs.Verdicts.{verdict_number, is_bad, is_looked_at, is_a_run, is_a_refusal, is_whole, by_notes, without, worst, judged};
+ghost use Rattle.verdict.specs.Verdicts.{verdict_number, is_bad, is_looked_at, is_whole, without, worst, judged};
 
-use crate::{Judged, Noted, Verdict, Watch, notes};
+use crate::{Judged, Noted, Verdict, Watch};
 
-// The verdicts by number, worst first.
+// The verdicts by number, worst first. A statement of settled asks it.
 pub fn verdict_number(verdict: Verdict) -> u8
     ensures { result ≡ verdict_number verdict }
 {
-    match verdict {
-        Verdict::Incomplete => 0,
-        Verdict::Refused => 1,
-        Verdict::RefusedActions => 2,
-        Verdict::Cut => 3,
-        Verdict::LocksLost => 4,
-        Verdict::TakesFailed => 5,
-        Verdict::Good => 6,
-    }
+    verdict as u8
 }
 
-// Whether the verdict with this number is bad: incomplete, refused, refused actions, cut.
+// Whether the verdict with this number is bad: incomplete, refused, refused actions, cut. Its promise is of every number, so it stands beside the
+// method of a verdict; so does the next one.
 pub fn is_bad(number: u64) -> bool
     ensures { result ≡ is_bad number }
 {
@@ -30,96 +25,71 @@ pub fn is_bad(number: u64) -> bool
 pub fn is_looked_at(number: u64) -> bool
     ensures { result ≡ is_looked_at number }
 {
-    if number < 4 {
-        return false;
-    }
-    number < 6
+    !is_bad(number) && number < 6
 }
 
-// Whether the text has one run and no refused one; a run has 1 to 64 H lines.
-fn is_a_run(runs: u64, refused: u64, locks: u64) -> bool
-    ensures { result ≡ is_a_run runs refused locks }
-{
-    if runs == 1 {
-        if refused == 0 {
-            if 1 <= locks {
-                return locks <= 64;
-            }
-            return false;
-        }
-        return false;
+impl Verdict {
+    // Whether it is bad.
+    pub fn is_bad(self) -> bool
+        ensures { result ≡ is_bad (verdict_number self) }
+    {
+        self < Verdict::LocksLost
     }
-    false
-}
 
-// Whether the text has one refused run and no other.
-fn is_a_refusal(runs: u64, refused: u64) -> bool
-    ensures { result ≡ is_a_refusal runs refused }
-{
-    if runs == 0 {
-        return refused == 1;
+    // Whether it is to be looked at.
+    pub fn is_looked_at(self) -> bool
+        ensures { result ≡ is_looked_at (verdict_number self) }
+    {
+        !self.is_bad() && self < Verdict::Good
     }
-    false
-}
-
-// Whether the text is a whole run, or a refused one, and nothing else.
-fn is_whole(watch: Watch) -> bool
-    ensures { result ≡ is_whole watch }
-{
-    let state = watch.gather;
-    let fault = gather::fault_of(state);
-    if gather::is_fine(fault) {
-        let locks = watch.locks;
-        if is_a_run(state.runs, state.refused, locks.count) {
-            return true;
-        }
-        return is_a_refusal(state.runs, state.refused);
-    }
-    false
-}
-
-// This verdict where some line was noted, else the later one.
-fn by_notes(verdict: Verdict, notes: Noted, later: Judged) -> Judged
-    ensures { result ≡ by_notes verdict notes later }
-{
-    if 0 < notes.count {
-        return Judged {
-            verdict: verdict,
-            noted: notes,
-        };
-    }
-    later
 }
 
 // A verdict that rests on no line.
 fn without(verdict: Verdict) -> Judged
     ensures { result ≡ without verdict }
 {
-    let noted = notes::no_notes();
     Judged {
-        verdict: verdict,
-        noted: noted,
+        verdict,
+        noted: Noted::default(),
     }
 }
 
-// The worst line of a whole run decides.
-fn worst(watch: Watch) -> Judged
-    ensures { result ≡ worst watch.refusal watch.actions watch.cut watch.lost watch.failed }
-{
-    let good = without(Verdict::Good);
-    let by_failed = by_notes(Verdict::TakesFailed, watch.failed, good);
-    let by_lost = by_notes(Verdict::LocksLost, watch.lost, by_failed);
-    let by_cut = by_notes(Verdict::Cut, watch.cut, by_lost);
-    let by_actions = by_notes(Verdict::RefusedActions, watch.actions, by_cut);
-    by_notes(Verdict::Refused, watch.refusal, by_actions)
+impl Watch {
+    // Whether the text is a whole run, with 1 to 64 H lines, or a refused one, and nothing else.
+    fn is_whole(self) -> bool
+        ensures { result ≡ is_whole self }
+    {
+        gather::fault_of(self.gather).is_none()
+            && match (self.gather.runs, self.gather.refused) {
+                (1, 0) => (1..=64).contains(&self.locks.count),
+                (0, 1) => true,
+                _ => false,
+            }
+    }
+
+    // The worst line of a whole run decides.
+    fn worst(self) -> Judged
+        ensures { result ≡ worst self.refusal self.actions self.cut self.lost self.failed }
+    {
+        let (verdict, noted) = match self {
+            Watch { refusal, .. } if 0 < refusal.count => (Verdict::Refused, refusal),
+            Watch { actions, .. } if 0 < actions.count => (Verdict::RefusedActions, actions),
+            Watch { cut, .. } if 0 < cut.count => (Verdict::Cut, cut),
+            Watch { lost, .. } if 0 < lost.count => (Verdict::LocksLost, lost),
+            Watch { failed, .. } if 0 < failed.count => (Verdict::TakesFailed, failed),
+            _ => (Verdict::Good, Noted::default()),
+        };
+        Judged { verdict, noted }
+    }
 }
 
 // The verdict on the text that was read.
 pub fn judge(watch: Watch) -> Judged
     ensures { result ≡ judged watch }
 {
-    if is_whole(watch) {
-        return worst(watch);
+    if watch.is_whole() {
+        watch.worst()
+    } else {
+        without(Verdict::Incomplete)
     }
-    without(Verdict::Incomplete)
 }

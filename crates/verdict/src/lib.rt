@@ -1,20 +1,21 @@
 // The verdict on one schedule, by the lines that the night program wrote of it: text that is no whole run, or else the worst line that it has, decides.
 // The text comes byte by byte, and is read by linereader and gather.
-#![tactic(auto)]
+#![tactic(auto, unfolding(gather::specs::Gathering::is_fine, crate::specs::Verdicts::no_notes, crate::specs::Verdicts::start_watch, crate::specs::Verdicts::inside_line, crate::specs::Verdicts::is_whole_line, crate::specs::Verdicts::watch_part, crate::specs::Verdicts::watch_byte))]
 
 mod judging;
 mod notes;
 
 ghost use Rattle.std.specs.Prelude.{◌≡◌};
-ghost use Rattle.verdict.specs.Verdicts.{is_whole_line, start_watch, inside_line, line_watched, watch_part, watch_byte};
+ghost use Rattle.verdict.specs.Verdicts.{start_watch, line_watched, watch_byte};
 
 use gather::Gather;
 pub use judging::{is_bad, is_looked_at, judge, verdict_number};
 use linereader::{Part, Scan};
+use std::fmt;
 
 // What a schedule is, worst first: its text is no whole run; its file was refused (Q); some of its actions were refused (X); it was cut (C); locks
 // were lost (L); takes failed (N); or it is good. The first four are bad, the next two are to be looked at.
-#[derive(Clone, Copy)]
+#[derive(Clone, Copy, Debug, PartialEq, Eq, PartialOrd, Ord)]
 pub enum Verdict {
     Incomplete,
     Refused,
@@ -25,8 +26,22 @@ pub enum Verdict {
     Good,
 }
 
+impl fmt::Display for Verdict {
+    fn fmt<W: fmt::Write>(&self, f: &mut fmt::Formatter<W>) -> fmt::Result {
+        f.write_str(match self {
+            Verdict::Incomplete => "incomplete",
+            Verdict::Refused => "refused",
+            Verdict::RefusedActions => "refused actions",
+            Verdict::Cut => "cut",
+            Verdict::LocksLost => "locks lost",
+            Verdict::TakesFailed => "takes failed",
+            Verdict::Good => "good",
+        })
+    }
+}
+
 // The lines with one letter: how many there were, and the steps and the first two numbers of the first one.
-#[derive(Clone, Copy)]
+#[derive(Clone, Copy, Debug, Default, PartialEq, Eq)]
 pub struct Noted {
     pub count: u64,
     pub steps: u64,
@@ -35,7 +50,7 @@ pub struct Noted {
 }
 
 // What has been read of a schedule's text: how its reading stands, its H lines, and the lines that a verdict goes by.
-#[derive(Clone, Copy)]
+#[derive(Clone, Copy, Debug, PartialEq, Eq)]
 pub struct Watch {
     pub gather: Gather,
     pub locks: Noted,
@@ -47,7 +62,7 @@ pub struct Watch {
 }
 
 // The verdict, and the lines that it rests on.
-#[derive(Clone, Copy)]
+#[derive(Clone, Copy, Debug, PartialEq, Eq)]
 pub struct Judged {
     pub verdict: Verdict,
     pub noted: Noted,
@@ -57,103 +72,46 @@ pub struct Judged {
 pub fn start_watch() -> Watch
     ensures { result ≡ start_watch }
 {
-    let gather = gather::start_gather();
-    let locks = notes::no_notes();
-    let refusal = notes::no_notes();
-    let actions = notes::no_notes();
-    let cut = notes::no_notes();
-    let lost = notes::no_notes();
-    let failed = notes::no_notes();
     Watch {
-        gather: gather,
-        locks: locks,
-        refusal: refusal,
-        actions: actions,
-        cut: cut,
-        lost: lost,
-        failed: failed,
+        gather: gather::start_gather(),
+        locks: Noted::default(),
+        refusal: Noted::default(),
+        actions: Noted::default(),
+        cut: Noted::default(),
+        lost: Noted::default(),
+        failed: Noted::default(),
     }
 }
 
-// Inside a line: the notes stay.
-fn inside_line(next: Gather, watch: Watch) -> Watch
-    ensures { result ≡ inside_line next watch }
-{
-    let locks = watch.locks;
-    let refusal = watch.refusal;
-    let actions = watch.actions;
-    let cut = watch.cut;
-    let lost = watch.lost;
-    let failed = watch.failed;
-    Watch {
-        gather: next,
-        locks: locks,
-        refusal: refusal,
-        actions: actions,
-        cut: cut,
-        lost: lost,
-        failed: failed,
+impl Watch {
+    // After a whole line: it is noted by its letter.
+    #[tactic(auto, unfolding(crate::specs::Verdicts::line_watched))]
+    fn line_watched(self, scan: Scan, gather: Gather) -> Watch
+        ensures { result ≡ line_watched scan gather self }
+    {
+        Watch {
+            gather,
+            locks: self.locks.noted_if(b'H', scan),
+            refusal: self.refusal.noted_if(b'Q', scan),
+            actions: self.actions.noted_if(b'X', scan),
+            cut: self.cut.noted_if(b'C', scan),
+            lost: self.lost.noted_if(b'L', scan),
+            failed: self.failed.noted_if(b'N', scan),
+        }
     }
 }
 
-// After a whole line: it is noted by its letter.
-fn line_watched(scan: Scan, next: Gather, watch: Watch) -> Watch
-    ensures { result ≡ line_watched scan next watch }
-{
-    let locks = notes::noted_if(b'H', scan, watch.locks);
-    let refusal = notes::noted_if(b'Q', scan, watch.refusal);
-    let actions = notes::noted_if(b'X', scan, watch.actions);
-    let cut = notes::noted_if(b'C', scan, watch.cut);
-    let lost = notes::noted_if(b'L', scan, watch.lost);
-    let failed = notes::noted_if(b'N', scan, watch.failed);
-    Watch {
-        gather: next,
-        locks: locks,
-        refusal: refusal,
-        actions: actions,
-        cut: cut,
-        lost: lost,
-        failed: failed,
-    }
-}
-
-// Whether a line is whole.
-fn is_whole_line(part: Part) -> bool
-    ensures { result ≡ is_whole_line part }
-{
-    match part {
-        Part::Steps => false,
-        Part::Letter => false,
-        Part::Space => false,
-        Part::Numbers => false,
-        Part::Whole => true,
-        Part::Wrong => false,
-    }
-}
-
-// By what is read of the line.
-fn watch_part(part: Part, scan: Scan, watch: Watch) -> Watch
-    ensures { result ≡ watch_part part scan watch }
-{
-    let before = watch.gather;
-    let next = gather::after_part(part, scan, before);
-    if is_whole_line(part) {
-        return line_watched(scan, next, watch);
-    }
-    inside_line(next, watch)
-}
-
-// One byte more of the text. Behind the first fault nothing is read.
+// One byte more of the text. Inside a line the notes stay; behind the first fault nothing is read.
 pub fn watch_byte(watch: Watch, byte: u8) -> Watch
     ensures { result ≡ watch_byte watch byte }
 {
-    let before = watch.gather;
-    let fault = before.fault;
-    if gather::is_fine(fault) {
-        let reading = before.scan;
-        let scan = linereader::scan_byte(reading, byte);
-        let part = scan.part;
-        return watch_part(part, scan, watch);
+    if watch.gather.fault.is_some() {
+        return watch;
     }
-    watch
+    let scan = linereader::scan_byte(watch.gather.scan, byte);
+    let gather = gather::after_part(scan.part, scan, watch.gather);
+    match scan.part {
+        Part::Whole => watch.line_watched(scan, gather),
+        _ => Watch { gather, ..watch },
+    }
 }

@@ -1,6 +1,6 @@
 -- 01, "The run and its lines": the words of each line. "Each line: steps done, letter, two numbers"; 02, item 13: "Each H line must end with
 -- two more numbers".
-use Rattle.std.specs.Prelude.{ℕ, ◌+◌, Bool, true, false, cond, List, [], ◌∷◌}
+use Rattle.std.specs.Prelude.{ℕ, ◌+◌, Bool, cond, List, [], ◌∷◌, Option, Some, None}
 use Rattle.acts.specs.declared.Action.{Action}
 use Rattle.acts.specs.declared.Action.TheVariants.{Take, Release, Force}
 use Rattle.turns.specs.declared.Event.{Event}
@@ -11,11 +11,16 @@ use Rattle.wording.specs.declared.Line.{Line}
 -- the line with this letter and these two numbers, after so many steps
 unfoldable pub line_of : ℕ → ℕ → ℕ → ℕ → Line
 line_of steps letter first second =
-    record { steps = steps; letter = letter; first = first; second = second; long = false; third = 0; fourth = 0 }
+    record { steps = steps; letter = letter; first = first; second = second; more = None }
+
+-- the numbers that a long line has more
+unfoldable pub more_of : Option (ℕ × ℕ) → List ℕ
+more_of None = []
+more_of (Some more) = more.0 ∷ more.1 ∷ []
 
 -- a line's numbers in order: two, or four of a long one
 unfoldable pub numbers_of : Line → List ℕ
-numbers_of l = l.first ∷ l.second ∷ cond l.long (l.third ∷ l.fourth ∷ []) []
+numbers_of l = l.first ∷ l.second ∷ more_of l.more
 
 -- a line as it is written
 unfoldable pub text : Line → List ℕ
@@ -35,13 +40,13 @@ unfoldable pub refused_says : ℕ → ℕ → ℕ → Line
 refused_says steps number place = line_of steps 88 number place
 
 -- "Events bear their step's number, .. with node and lock: G granted, N failp returned, L lost to a dov, B own dov back, D didv sent."
-unfoldable pub event_says : ℕ → ℕ → Event → Line
+unfoldable pub event_says : ℕ → ℕ → Option Event → Line
 event_says steps place event = line_of steps (event_letter event) (place + 1) (event_lock event)
 
 -- "one H line a lock ascending: lock and busy steps"; 02: "two more numbers, the lock's grants and N events"
 unfoldable pub lock_says : ℕ → ℕ → ℕ → ℕ → ℕ → Line
 lock_says steps lock busy grants failed =
-    record { steps = steps; letter = 72; first = lock; second = busy; long = true; third = grants; fourth = failed }
+    record { steps = steps; letter = 72; first = lock; second = busy; more = Some (grants, failed) }
 
 -- "Last E, or C where the schedule's sum is above the ceiling: grants and N events."
 unfoldable pub end_letter : Bool → ℕ

@@ -1,12 +1,11 @@
 -- What is seen of a run of the definitions: a list of moves from a plan's start state, and everything that happens, by step.
-use Rattle.std.specs.Prelude.{ℕ, zero, suc, ◌+◌, ◌-◌, Bool, true, false, cond, not, ◌&&◌, List, [], ◌∷◌, ◌++◌, eqb, get_or}
+use Rattle.std.specs.Prelude.{ℕ, zero, suc, ◌+◌, ◌-◌, Bool, true, false, cond, not, ◌&&◌, List, [], ◌∷◌, ◌++◌, eqb, get_or, Option, Some, None}
 use Rattle.cars.specs.declared.Car.{Car}
-use Rattle.cars.specs.declared.Car.TheVariants.{Idle, Token, Null, Reqp, Failp, Dov, Gotp, Didv}
+use Rattle.cars.specs.Kinds.{is_token_car}
 use Rattle.plan.specs.declared.Plan.{Plan}
 use Rattle.plan.specs.Plan.{node_count, junction_count}
 use Rattle.acts.specs.declared.Action.{Action}
 use Rattle.turns.specs.declared.Event.{Event}
-use Rattle.turns.specs.declared.Event.TheVariants.{Nothing, Granted, Failed, Lost, Back, Sent}
 use Rattle.junction.specs.declared.Junction.{Junction}
 use Rattle.ring.specs.declared.State.{State}
 use Rattle.ring.specs.State.{Told, start_state, rest_junction}
@@ -44,29 +43,16 @@ unfoldable pub sight : Bool → Sight → List Sight
 sight true s = s ∷ []
 sight false s = []
 
-unfoldable pub is_token : Car → Bool
-is_token Idle = false
-is_token Token = true
-is_token Null = false
-is_token (Reqp tag) = false
-is_token (Failp tag) = false
-is_token (Dov tag) = false
-is_token (Gotp notice) = false
-is_token (Didv notice) = false
-
-unfoldable pub happened : Event → Bool
-happened Nothing = false
-happened (Granted lock) = true
-happened (Failed lock) = true
-happened (Lost lock) = true
-happened (Back lock) = true
-happened (Sent lock) = true
+-- the event of a node, where it had one
+unfoldable pub happened : ℕ → ℕ → Option Event → List Sight
+happened step node None = []
+happened step node (Some it) = at step (event node it) ∷ []
 
 -- the events of the first nodes, ascending
 unfoldable pub events : ℕ → ℕ → StepTold → List Sight
 events step zero told = []
 events step (suc n) told =
-    events step n told ++ sight (happened (get_or told.events n quiet).event) (at step (event (n + 1) (get_or told.events n quiet).event))
+    events step n told ++ happened step (n + 1) (get_or told.events n quiet)
 
 -- what changed at a junction
 unfoldable pub changes : ℕ → ℕ → Junction → Junction → List Sight
@@ -88,7 +74,7 @@ in_step step before told =
     sight (not (eqb told.number 0)) (at step (stuck told.number))
     ++ events step (node_count before.plan) told
     ++ junction_changes step (junction_count before.plan) before told.state
-    ++ sight (is_token told.state.zeroth.car) (at step token)
+    ++ sight (is_token_car told.state.zeroth.car) (at step token)
 
 -- a number of steps, and what comes after them
 unfoldable pub watch_steps : ℕ → ℕ → State → (ℕ → State → List Sight) → List Sight
@@ -110,7 +96,7 @@ watch (act action node lock ∷ moves) done state =
 
 -- from the start
 unfoldable pub run : Plan → List Move → List Sight
-run plan moves = sight (is_token (start_state plan).zeroth.car) (at 0 token) ++ watch moves 0 (start_state plan)
+run plan moves = sight (is_token_car (start_state plan).zeroth.car) (at 0 token) ++ watch moves 0 (start_state plan)
 
 -- where moves lead to
 unfoldable pub steps_on : ℕ → State → State

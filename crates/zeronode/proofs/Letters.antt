@@ -1,5 +1,5 @@
 -- The case that the queue's head leads to is the first of (a), (b), (c) that applies. By whether the queue is empty, its head, and the arrival.
-use mathlib.Core.Path.{◌≡◌, refl, ap, ◌∙◌}
+use mathlib.Core.Path.{◌≡◌, refl, sym}
 use mathlib.Core.Bool.{Bool, true, false, cond, ◌&&◌, not}
 use lib.Dec.{eqb}
 use lib.ListN.{get_or}
@@ -7,7 +7,6 @@ use Rattle.cars.specs.declared.Car.{Car}
 use Rattle.cars.specs.declared.Car.TheVariants.{Idle, Token, Null, Reqp, Failp, Dov, Gotp, Didv}
 use Rattle.cars.specs.Kinds.{is_idle_car, is_token_car}
 use Rattle.zeronode.specs.declared.ZeroNode.{ZeroNode}
-use Rattle.zeronode.specs.declared.ZeroRule.{ZeroRule}
 use Rattle.zeronode.specs.declared.ZeroRule.TheVariants.{SendsIdle}
 use Rattle.zeronode.specs.Rules.{empty_slot, on_token, on_head, zero_rule}
 use Rattle.zeronode.specs.Letters.{zero_letter, queued, head_is_token, zero_letter_of}
@@ -47,9 +46,8 @@ queue_applies false head arrival = head_applies head arrival
 
 pub first_that_applies : FirstThatApplies
 unfolding zero_rule zero_letter_of head_is_token queued
-first_that_applies node arrival = queue_applies (eqb node.count 0) (get_or node.queue 0 empty_slot).car arrival
+first_that_applies node arrival = queue_applies (eqb node.count 0) (get_or node.queue 0 empty_slot) arrival
 
--- a case as the definition has it, with its letter: the promise of ZeroNode::rule
-pub lettered : (node : ZeroNode) (arrival : Car) (r : ZeroRule)
-    → r ≡ zero_rule node arrival → (r ≡ zero_rule node arrival) × (zero_letter r ≡ zero_letter_of node arrival)
-lettered node arrival r e = (e, ap zero_letter e ∙ first_that_applies node arrival)
+-- the same the other way round, for the promise of ZeroNode::rule
+pub lettered : (node : ZeroNode) (arrival : Car) → zero_letter_of node arrival ≡ zero_letter (zero_rule node arrival)
+lettered node arrival = sym (first_that_applies node arrival)

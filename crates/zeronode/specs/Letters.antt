@@ -20,7 +20,7 @@ queued node = not (eqb node.count 0)
 
 -- "Queue's head is the token"; "The queue's head is at place 0"
 unfoldable pub head_is_token : ZeroNode → Bool
-head_is_token node = queued node && is_token_car (get_or node.queue 0 empty_slot).car
+head_is_token node = queued node && is_token_car (get_or node.queue 0 empty_slot)
 
 -- the first of the three that applies, in 01's order
 unfoldable pub zero_letter_of : ZeroNode → Car → ℕ

@@ -2,7 +2,6 @@
 use Rattle.std.specs.Prelude.{ℕ, Bool, true, false, cond, eqb, get_or, replicate}
 use Rattle.cars.specs.declared.Car.{Car}
 use Rattle.cars.specs.declared.Car.TheVariants.{Idle, Token, Null, Reqp, Failp, Dov, Gotp, Didv}
-use Rattle.zeronode.specs.declared.Slot.{Slot}
 use Rattle.zeronode.specs.declared.ZeroNode.{ZeroNode}
 use Rattle.zeronode.specs.declared.ZeroRule.{ZeroRule}
 use Rattle.zeronode.specs.declared.ZeroRule.TheVariants.{SendsIdle, SendsToken, SendsHead}
@@ -12,8 +11,8 @@ abbrev pub queue_places : ℕ
 queue_places = 65
 
 -- a place that is not in use: "idle"
-unfoldable pub empty_slot : Slot
-empty_slot = record { car = Idle }
+unfoldable pub empty_slot : Car
+empty_slot = Idle
 
 -- "At the start the zero node sends the token"; its queue is empty
 abbrev pub zero_start : ZeroNode
@@ -43,7 +42,7 @@ on_head (Didv notice) arrival = SendsHead (Didv notice)
 
 -- "The queue's head is at place 0"; (c) "Otherwise send idle."
 unfoldable pub zero_rule : ZeroNode → Car → ZeroRule
-zero_rule node arrival = cond (eqb node.count 0) SendsIdle (on_head (get_or node.queue 0 empty_slot).car arrival)
+zero_rule node arrival = cond (eqb node.count 0) SendsIdle (on_head (get_or node.queue 0 empty_slot) arrival)
 
 -- "Then append the arrival, unless it is idle, null, gotp or didv."
 unfoldable pub keeps : Car → Bool

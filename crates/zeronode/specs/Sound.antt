@@ -8,7 +8,7 @@ use Rattle.zeronode.specs.Rules.{queue_places, empty_slot}
 
 -- a place of the queue names nothing that is missing
 unfoldable pub place_names : ℕ → ℕ → ℕ → ZeroNode → ℕ → Bool
-place_names rules nodes locks node place = car_names rules nodes locks (get_or node.queue place empty_slot).car
+place_names rules nodes locks node place = car_names rules nodes locks (get_or node.queue place empty_slot)
 
 unfoldable pub zero_sound : ℕ → ℕ → ℕ → ZeroNode → Bool
 zero_sound rules nodes locks node =

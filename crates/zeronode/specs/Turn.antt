@@ -2,7 +2,6 @@
 use Rattle.std.specs.Prelude.{ℕ, ◌+◌, ◌-◌, Bool, cond, ◌&&◌, List, ◌∷◌, ◌++◌, ltb, leb, take, drop, set}
 use Rattle.cars.specs.declared.Car.{Car}
 use Rattle.cars.specs.declared.Car.TheVariants.{Idle, Token}
-use Rattle.zeronode.specs.declared.Slot.{Slot}
 use Rattle.zeronode.specs.declared.ZeroNode.{ZeroNode}
 use Rattle.zeronode.specs.declared.ZeroRule.{ZeroRule}
 use Rattle.zeronode.specs.declared.ZeroRule.TheVariants.{SendsIdle, SendsToken, SendsHead}
@@ -10,7 +9,7 @@ use Rattle.zeronode.specs.Rules.{queue_places, empty_slot, zero_rule, keeps}
 
 -- the head taken off: the cars behind it move up, "a place that the queue gives up becomes idle", and the places beyond the
 -- count stay as they were
-unfoldable pub shifted : List Slot → ℕ → List Slot
+unfoldable pub shifted : List Car → ℕ → List Car
 shifted queue count = take (count - 1) (drop 1 queue) ++ (empty_slot ∷ drop count queue)
 
 -- this car is sent and the head taken off
@@ -27,7 +26,7 @@ sends node (SendsHead head) = head_off node head
 unfoldable pub appended : ZeroNode → Car → ZeroNode
 appended node arrival =
     cond (ltb node.count queue_places)
-    (record { car = node.car; queue = set node.queue node.count (record { car = arrival }); count = node.count + 1 })
+    (record { car = node.car; queue = set node.queue node.count arrival; count = node.count + 1 })
     node
 
 -- "Then append the arrival, unless .."

@@ -1,167 +1,106 @@
 // The zero node: the car it is sending and its queue, rules (a), (b) and (c), and what 13 and 14 say of it.
 #![tactic(auto)]
 
-ghost use Rattle.std.specs.Prelude.{◌≡◌, ◌-◌, ◌≤◌, ◌<◌};
+ghost use Rattle.std.specs.Prelude.{◌≡◌, ◌≤◌, ◌<◌};
 ghost use Rattle.lists.specs.Loops.{every};
-ghost use Rattle.zeronode.specs.Rules.{zero_start, on_token, on_head, zero_rule, keeps};
+ghost use Rattle.zeronode.specs.Rules.{zero_start, zero_rule, keeps};
 ghost use Rattle.zeronode.specs.Letters.{zero_letter, zero_letter_of};
 ghost use Rattle.zeronode.specs.Turn.{shifted, head_off, sends, appended, arrives, zero_turn, count_left, overflows};
 ghost use Rattle.zeronode.specs.Sound.{place_names, zero_sound};
 
-use cars::Car;
+use cars::{Car, Limits};
 
 // The places of the queue.
 pub const PLACES: usize = 65;
 
-// One place of the queue.
-#[derive(Clone, Copy)]
-pub struct Slot {
-    pub car: Car,
-}
-
 // The car it is sending, the queue with its head at place 0, and how many cars are in it.
+// The queue is an array with its count beside it: places beyond the count come back as they were, and 13 refuses a count over 65,
+// so that 65 is asked for where it is needed and is no invariant of the type.
 #[derive(Clone, Copy)]
 pub struct ZeroNode {
     pub car: Car,
-    pub queue: [Slot; PLACES],
+    pub queue: [Car; PLACES],
     pub count: u8,
 }
 
 // (c), (a) and (b): send idle; send the token and take it off; send the head, which is not the token, and take it off.
-#[derive(Clone, Copy)]
+#[derive(Clone, Copy, Debug, PartialEq, Eq)]
 pub enum ZeroRule {
     SendsIdle,
     SendsToken,
     SendsHead(Car),
 }
 
-// The token is the queue's head: it goes where the arrival is idle.
-fn on_token(arrival: Car) -> ZeroRule
-    ensures { result ≡ on_token arrival }
-{
-    match arrival {
-        Car::Idle => ZeroRule::SendsToken,
-        Car::Token => ZeroRule::SendsIdle,
-        Car::Null => ZeroRule::SendsIdle,
-        Car::Reqp(tag) => ZeroRule::SendsIdle,
-        Car::Failp(tag) => ZeroRule::SendsIdle,
-        Car::Dov(tag) => ZeroRule::SendsIdle,
-        Car::Gotp(notice) => ZeroRule::SendsIdle,
-        Car::Didv(notice) => ZeroRule::SendsIdle,
-    }
-}
-
-// By the queue's head.
-fn on_head(head: Car, arrival: Car) -> ZeroRule
-    ensures { result ≡ on_head head arrival }
-{
-    match head {
-        Car::Idle => ZeroRule::SendsHead(head),
-        Car::Token => on_token(arrival),
-        Car::Null => ZeroRule::SendsHead(head),
-        Car::Reqp(tag) => ZeroRule::SendsHead(head),
-        Car::Failp(tag) => ZeroRule::SendsHead(head),
-        Car::Dov(tag) => ZeroRule::SendsHead(head),
-        Car::Gotp(notice) => ZeroRule::SendsHead(head),
-        Car::Didv(notice) => ZeroRule::SendsHead(head),
-    }
-}
-
 // Whether the arrival is appended to the queue.
+#[tactic(auto, unfolding(crate::specs::Rules::keeps))]
 pub fn keeps(arrival: Car) -> bool
     ensures { result ≡ keeps arrival }
 {
-    match arrival {
-        Car::Idle => false,
-        Car::Token => true,
-        Car::Null => false,
-        Car::Reqp(tag) => true,
-        Car::Failp(tag) => true,
-        Car::Dov(tag) => true,
-        Car::Gotp(notice) => false,
-        Car::Didv(notice) => false,
-    }
+    !matches!(arrival, Car::Idle | Car::Null | Car::Gotp(_) | Car::Didv(_))
 }
 
 // The queue without its head: the cars behind it move up, and the place given up becomes idle.
-fn shifted(queue: [Slot; PLACES], count: usize) -> [Slot; PLACES]
+#[tactic(auto, using(crate::proofs::Queue::shifted_is), unfolding(crate::specs::Rules::empty_slot))]
+fn shifted(mut queue: [Car; PLACES], count: usize) -> [Car; PLACES]
     requires { (0 < count) × (count ≤ 65) }
     ensures { result ≡ shifted queue count }
 {
-    let mut moved = queue;
-    let last = count - 1;
-    let mut i = 0;
-    while i < last {
-        moved[i] = queue[i + 1];
-        i += 1;
-    }
-    moved[last] = Slot { car: Car::Idle };
-    moved
-}
-
-// One less, and 0 for 0.
-fn less_one(count: u8) -> u8
-    ensures { result ≡ count - 1 }
-{
-    if count == 0 {
-        return 0;
-    }
-    count - 1
+    queue.copy_within(1..count, 0);
+    queue[count - 1] = Car::Idle;
+    queue
 }
 
 impl ZeroNode {
     // The zero node at the start: it sends the token, and its queue is empty.
+    #[tactic(auto, unfolding(crate::specs::Rules::empty_slot))]
     pub fn start() -> ZeroNode
         ensures { result ≡ zero_start }
     {
-        let queue = [Slot { car: Car::Idle }; PLACES];
         ZeroNode {
             car: Car::Token,
-            queue: queue,
+            queue: [Car::Idle; PLACES],
             count: 0,
         }
     }
 
-    // Which of (a), (b), (c) applies; its letter is 01's.
+    // Which of (a), (b), (c) applies; its letter is 01's. By the queue's head: the token goes where the arrival is idle.
+    #[tactic(auto, using(crate::proofs::Letters::lettered), unfolding(crate::specs::Rules::zero_rule, crate::specs::Rules::on_head, crate::specs::Rules::on_token, crate::specs::Rules::empty_slot))]
     pub fn rule(self, arrival: Car) -> ZeroRule
         ensures { (result ≡ zero_rule self arrival) × (zero_letter result ≡ zero_letter_of self arrival) }
     {
-        let count = self.count;
-        if count == 0 {
+        if self.count == 0 {
             return ZeroRule::SendsIdle;
         }
-        let slot = self.queue[0];
-        let head = slot.car;
-        on_head(head, arrival)
+        match (self.queue[0], arrival) {
+            (Car::Token, Car::Idle) => ZeroRule::SendsToken,
+            (Car::Token, _) => ZeroRule::SendsIdle,
+            (head, _) => ZeroRule::SendsHead(head),
+        }
     }
 
     // A car is sent and the head is taken off.
+    #[tactic(auto, unfolding(crate::specs::Turn::head_off))]
     fn head_off(self, car: Car) -> ZeroNode
         requires { (0 < self.count) × (self.count ≤ 65) }
         ensures { result ≡ head_off self car }
     {
-        let queue = self.queue;
-        let count = self.count;
-        let moved = shifted(queue, count as usize);
         ZeroNode {
-            car: car,
-            queue: moved,
-            count: count - 1,
+            car,
+            queue: shifted(self.queue, usize::from(self.count)),
+            count: self.count - 1,
         }
     }
 
     // What is sent, and the queue without it.
+    #[tactic(auto, using(crate::proofs::Queue::idle_or_queued), unfolding(crate::specs::Turn::sends))]
     fn sent(self, arrival: Car) -> ZeroNode
         requires { self.count ≤ 65 }
         ensures { result ≡ sends self (zero_rule self arrival) }
     {
-        let queue = self.queue;
-        let rule = self.rule(arrival);
-        match rule {
+        match self.rule(arrival) {
             ZeroRule::SendsIdle => ZeroNode {
                 car: Car::Idle,
-                queue: queue,
-                count: self.count,
+                ..self
             },
             ZeroRule::SendsToken => self.head_off(Car::Token),
             ZeroRule::SendsHead(head) => self.head_off(head),
@@ -169,94 +108,77 @@ impl ZeroNode {
     }
 
     // The arrival at the queue's end, where there is a place.
-    fn appended(self, arrival: Car) -> ZeroNode
+    #[tactic(auto, unfolding(crate::specs::Turn::appended))]
+    fn appended(mut self, arrival: Car) -> ZeroNode
         ensures { result ≡ appended self arrival }
     {
-        let count = self.count;
-        if count < 65 {
-            let mut node = self;
-            node.queue[count as usize] = Slot { car: arrival };
-            node.count = count + 1;
-            return node;
+        if self.count < 65 {
+            self.queue[usize::from(self.count)] = arrival;
+            self.count += 1;
         }
         self
     }
 
     // The arrival at the queue's end, unless it is idle, null, gotp or didv.
+    #[tactic(auto, unfolding(crate::specs::Turn::arrives))]
     fn arrives(self, arrival: Car) -> ZeroNode
         ensures { result ≡ arrives self arrival }
     {
         if keeps(arrival) {
-            return self.appended(arrival);
+            self.appended(arrival)
+        } else {
+            self
         }
-        self
     }
 
     // The zero node's turn in a step, with the car that arrives.
+    #[tactic(auto, unfolding(crate::specs::Turn::zero_turn))]
     pub fn turn(self, arrival: Car) -> ZeroNode
         ensures { result ≡ zero_turn self arrival }
     {
-        let count = self.count;
-        if count <= 65 {
-            return self.sent(arrival).arrives(arrival);
+        if self.count <= 65 {
+            self.sent(arrival).arrives(arrival)
+        } else {
+            self
         }
-        self
     }
 
     // How many cars are left when the head has been sent.
+    #[tactic(auto, unfolding(crate::specs::Turn::count_left))]
     fn count_left(self, rule: ZeroRule) -> u8
         ensures { result ≡ count_left self rule }
     {
-        let count = self.count;
         match rule {
-            ZeroRule::SendsIdle => count,
-            ZeroRule::SendsToken => less_one(count),
-            ZeroRule::SendsHead(head) => less_one(count),
+            ZeroRule::SendsIdle => self.count,
+            ZeroRule::SendsToken | ZeroRule::SendsHead(_) => self.count.saturating_sub(1),
         }
     }
 
     // Whether the queue would need a 66th place (14).
+    #[tactic(auto, unfolding(crate::specs::Turn::overflows))]
     pub fn overflows(self, arrival: Car) -> bool
         ensures { result ≡ overflows self arrival }
     {
-        if keeps(arrival) {
-            let rule = self.rule(arrival);
-            let left = self.count_left(rule);
-            return 65 <= left;
-        }
-        false
+        keeps(arrival) && 65 <= self.count_left(self.rule(arrival))
     }
 
     // Whether the first `count` places of the queue name nothing that is missing.
-    fn queue_names(self, rules: u8, nodes: u8, locks: u8, count: usize) -> bool
+    fn queue_names(self, limits: Limits, count: usize) -> bool
         requires { count ≤ 65 }
-        ensures { result ≡ every (place_names rules nodes locks self) count }
+        ensures { result ≡ every (place_names limits.rules limits.nodes limits.locks self) count }
     {
-        let mut i = 0;
-        while i < count {
-            let slot = self.queue[i];
-            let car = slot.car;
-            if cars::car_names(rules, nodes, locks, car) {
-                i += 1;
-            } else {
-                return false;
-            }
-        }
-        true
+        self.queue[..count]
+            .iter()
+            .all(|&car| cars::car_names(limits, car))
     }
 
     // Whether nothing of the zero node is what 13 refuses.
-    pub fn sound(self, rules: u8, nodes: u8, locks: u8) -> bool
-        ensures { result ≡ zero_sound rules nodes locks self }
+    #[tactic(auto, unfolding(crate::specs::Sound::zero_sound))]
+    pub fn sound(self, limits: Limits) -> bool
+        ensures { result ≡ zero_sound limits.rules limits.nodes limits.locks self }
     {
-        let car = self.car;
-        let count = self.count;
-        if count <= 65 {
-            if cars::car_names(rules, nodes, locks, car) {
-                return self.queue_names(rules, nodes, locks, count as usize);
-            }
-            return false;
-        }
-        false
+        self.count <= 65
+            && cars::car_names(limits, self.car)
+            && self.queue_names(limits, usize::from(self.count))
     }
 }

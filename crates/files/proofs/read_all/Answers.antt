@@ -1,32 +1,22 @@
 -- What a turn reads stands in the buffer behind what was read before, and is what the reader gave.
-use Rattle.std.proofs.Common.{◌≡◌, ℕ, ◌+◌, ◌-◌, ◌≤◌, List, ◌++◌, rules, arith, length, take, slice_range, sym, ap, ◌∙◌, subst, le_refl, drop_at, length-take-le}
-use Rattle.std.proofs.lemmas.Slice.{take-put_mid_below}
+use Rattle.std.proofs.Common.{◌≡◌, ℕ, ◌+◌, ◌-◌, ◌≤◌, List, ◌++◌, rules, length, take, sym, ap, ◌∙◌, subst, length-take-le}
+use Rattle.std.proofs.Math.Seq.{take-append-add}
+use Rattle.std.proofs.lemmas.List.{take-append-le}
 use Rattle.std.specs.Io.KnownBytes.{Consumes}
 use Rattle.std.proofs.KnownBytes.{Consumes-trans}
 use borrow.Rule.Slice.PartMut.{put_mid, post_of}
-use lib.Seq.{take-add, take-append-le}
 use Rattle.files.proofs.read_all.Goals as goal
 
-take_split : (a b : ℕ) (old new : List ℕ) → a ≤ b → take a new ≡ take a old → take a old ++ slice_range new a b ≡ take b new
-take_split a b old new h front =
-    let same : a + (b - a) ≡ b = omega arith in
-    ap (λ l. l ++ slice_range new a b) (sym front) ∙ sym (take-add a (b - a) new) ∙ ap (λ n. take n new) same
-
-slice_range-put_mid : (a k n : ℕ) (xs ys : List ℕ) → a ≤ length xs → n ≤ length ys → slice_range (put_mid a k xs ys) a (a + n) ≡ take n ys
-slice_range-put_mid a k n xs ys within fits =
-    let same : (a + n) - a ≡ n = omega arith in
+take-put_mid_add : (a n k : ℕ) (xs ys : List ℕ) → a ≤ length xs → n ≤ length ys → take (a + n) (put_mid a k xs ys) ≡ take a xs ++ take n ys
+take-put_mid_add a n k xs ys within fits =
     let after = post_of a k xs in
-    ap (take ((a + n) - a)) (drop_at (take a xs) (ys ++ after) a (length-take-le a xs within)) ∙ ap (λ m. take m (ys ++ after)) same ∙ take-append-le n ys after fits
+    ap (λ m. take (m + n) (put_mid a k xs ys)) (sym (length-take-le a xs within)) ∙ take-append-add (take a xs) (ys ++ after) n ∙ ap (λ l. take a xs ++ l) (take-append-le n ys after fits)
 
-pub loop-used-preserved : goal.loop-used-preserved
-loop-used-preserved g c =
-    let from = c.loop-used.used in
-    let room = length c.loop-used.buffer - from in
-    let within : from ≤ length c.loop-used.buffer = omega (arith, c.loop-used.invariant.within, c.loop-used.invariant.room) in
-    let part = slice_range-put_mid from room c.in-Ok.count c.loop-used.buffer c.read.new.buf within c.in-Ok.ensures.bound.0 in
-    let joined = take_split from (from + c.in-Ok.count) c.loop-used.buffer (put_mid from room c.loop-used.buffer c.read.new.buf) (omega arith) (take-put_mid_below _ _ _ _ _ (le_refl _) within) in
+pub loop-length-preserved : goal.loop-length-preserved
+loop-length-preserved g c =
+    let from = c.loop-length.length in
+    let now = c.loop-length.buffer in
     record {
-      room = search rules;
       within = search rules;
-      given = subst (Consumes _ _) (ap (λ l. take from c.loop-used.buffer ++ l) (sym part) ∙ joined) (Consumes-trans _ _ _ _ _ c.loop-used.invariant.given c.in-Ok.ensures.bytes.0);
+      given = subst (Consumes _ _) (sym (take-put_mid_add from c.in-Ok.count (length now - from) now c.read.new.buf c.loop-length.invariant.within c.in-Ok.ensures.bound.0)) (Consumes-trans _ _ _ _ _ c.loop-length.invariant.given c.in-Ok.ensures.bytes.0);
     }

@@ -1,40 +1,30 @@
--- `gather::gather_text` meets its contract. On each way to a return, the tests and calls on the way choose the case of the definition.
-use Prim.Native.Nat.{ℕ}
-use mathlib.Core.Path.{◌≡◌, sym, ap, ◌∙◌}
+-- `gather::gather_text` meets its contract. Each turn of the loop takes one byte of those that are left; at the end none is.
+use Prim.Native.Nat.{ℕ, ◌+◌}
+use mathlib.Core.Path.{sym, ap, ap₂, ◌∙◌}
 use mathlib.Core.List.{List}
-use lib.ListN.{length, take}
-use lib.Seq.{take_all}
-use borrow.Author.Rules.{rules}
+use lib.ListN.{drop}
+use Rattle.std.proofs.lemmas.List.{at_drop_more, at_drop_all}
+use Rattle.gather.specs.declared.Gather.{Gather}
 use Rattle.gather.specs.Gathering.{after_all, rows_after_all}
-use Rattle.gather.proofs.Pieces.{stands_none, rows_none, stands_again, rows_again, rows_long}
 use Rattle.gather.proofs.gather_text.Goals as goal
 
-pub loop-i-init : goal.loop-i-init
-loop-i-init c =
-    let a = c.args in
-    (search rules, sym (stands_none a.start a.text.now), sym (rows_none a.start a.text.now a.rows.now))
-
-pub loop-i-preserved : goal.loop-i-preserved
-loop-i-preserved c =
-    let at_place = c.loop-i in
-    let a = c.args in
-    let below = c.loop-i-test.true in (
-      search rules,
-      stands_again a.start a.text.now at_place.i below at_place.invariant.1 c.gather_byte-state.ensures.value,
-      rows_again a.start a.text.now a.rows.now at_place.i below at_place.invariant.1 at_place.invariant.2 c.gather_byte-state.ensures.rows_after,
+pub loop-byte-preserved : goal.loop-byte-preserved
+unfolding after_all rows_after_all
+loop-byte-preserved c =
+    let turn = c.loop-byte in
+    let text : List ℕ = c.args.text.now in
+    let rest : List ℕ = drop (turn.byte-index + 1) text in (
+      ap (λ (g : Gather). after_all g rest) c.gather_byte-state.ensures.value
+          ∙ sym (at_drop_more (after_all turn.state) text turn.byte-index 0 c.loop-byte-test.true) ∙ turn.invariant.0,
+      ap₂ (λ (g : Gather) (rows : List ℕ). rows_after_all g rest rows) c.gather_byte-state.ensures.value c.gather_byte-state.ensures.rows_after
+          ∙ sym (at_drop_more (λ (l : List ℕ). rows_after_all turn.state l turn.rows) text turn.byte-index 0 c.loop-byte-test.true) ∙ turn.invariant.1,
     )
 
-pub shape_of-rows : goal.shape_of-rows
-shape_of-rows c =
-    let a = c.args in
-    ap length c.loop-i.invariant.2 ∙ rows_long a.start (take c.loop-i.i a.text.now) a.rows.now
-
 pub returns : goal.returns
+unfolding after_all rows_after_all
 returns c =
-    let a = c.args in
-    let at_place = c.loop-i in
-    let all : take at_place.i a.text.now ≡ a.text.now = take_all at_place.i a.text.now c.loop-i-test.false in
+    let end = c.loop-byte in
     record {
-      value = at_place.invariant.1 ∙ ap (after_all a.start) all;
-      rows_after = at_place.invariant.2 ∙ ap (λ (l : List ℕ). rows_after_all a.start l a.rows.now) all;
+      value = sym (at_drop_all (after_all end.state) c.args.text.now end.byte-index c.loop-byte-test.false) ∙ end.invariant.0;
+      rows_after = sym (at_drop_all (λ (l : List ℕ). rows_after_all end.state l end.rows) c.args.text.now end.byte-index c.loop-byte-test.false) ∙ end.invariant.1;
     }

@@ -1,12 +1,10 @@
--- `gather::gather_text` meets its contract. On each way to a return, the tests and calls on the way choose the case of the definition.
-use Prim.Native.Nat.{◌-◌, ◌≤◌}
+-- The invariant of the loop in `gather::gather_text`: the bytes that are left give, with what is gathered, what all bytes give.
 use mathlib.Core.Path.{◌≡◌}
-use lib.ListN.{length, take}
+use lib.ListN.{drop}
 use Rattle.gather.specs.Gathering.{after_all, rows_after_all}
 use Rattle.gather.proofs.gather_text.Given as goal
 
-abbrev pub invariant-loop-i : goal.invariant-loop-i
-invariant-loop-i l = (l.i ≤ length l.text) × (l.state ≡ after_all l.initial.state (take l.i l.text)) × (l.rows ≡ rows_after_all l.initial.state (take l.i l.text) l.initial.rows)
-
-abbrev pub decreases-loop-i : goal.decreases-loop-i
-decreases-loop-i l = length l.text - l.i
+abbrev pub invariant-loop-byte : goal.invariant-loop-byte
+invariant-loop-byte l =
+    (after_all l.state (drop l.byte-index l.text) ≡ after_all l.initial.state l.text)
+    × (rows_after_all l.state (drop l.byte-index l.text) l.rows ≡ rows_after_all l.initial.state l.text l.initial.rows)

@@ -1,40 +1,42 @@
--- The invariant of the loop: the numbers up to the place reached are put, with room for the others.
-use Prim.Native.Nat.{◌+◌}
-use mathlib.Core.Path.{ap, ◌∙◌}
-use native.Mathlib.Omega.{arith}
-use lib.ListN.{length, take, length-set}
+-- There is room for one number more, since those up to it are a part of all; a number and its space are put behind those before it.
+use Rattle.std.proofs.Common.{◌+◌, length, take, ap, length-set, arith}
 use lib.Seq.{length-sets}
-use borrow.Author.Rules.{rules}
 use Rattle.lines.specs.Line.{spaced}
-use Rattle.lines.proofs.Laws.{spaced-length-more, spaced_part, spaced_all, put_none, put_another}
+use Rattle.lines.proofs.Laws.{spaced-length-more, spaced_part, put_none, put_another}
 use Rattle.lines.proofs.put_numbers.Goals as goal
 
-pub loop-next-init : goal.loop-next-init
-loop-next-init c = (search rules, put_none c.args.buffer.now c.args.at c.args.numbers.now)
+pub loop-number-init : goal.loop-number-init
+loop-number-init c = put_none c.args.buffer.now c.args.at c.args.numbers.now
 
 pub put_byte-number_at-requires : goal.put_byte-number_at-requires
 put_byte-number_at-requires c =
-    let more = spaced-length-more c.args.numbers.now c.loop-next.next c.loop-next-test.true in
-    omega (arith, more, spaced_part c.args.numbers.now (c.loop-next.next + 1), c.loop-next.invariant.1.0, ap length c.loop-next.invariant.1.1, length-sets c.args.buffer.now c.args.at (spaced (take c.loop-next.next c.args.numbers.now)), c.requires)
+    let a = c.args in
+    let at = c.loop-number.number-index in
+    omega (
+      arith,
+      spaced-length-more a.numbers.now at c.loop-number-test.true,
+      spaced_part a.numbers.now (at + 1),
+      ap length c.loop-number.invariant.1,
+      length-sets a.buffer.now a.at (spaced (take at a.numbers.now)),
+    )
 
 pub put_number-end-requires : goal.put_number-end-requires
 put_number-end-requires c =
-    let at_place = c.loop-next in
-    let more = spaced-length-more c.args.numbers.now at_place.next c.loop-next-test.true in
-    omega (arith, more, spaced_part c.args.numbers.now (at_place.next + 1), at_place.invariant.1.0, ap length at_place.invariant.1.1, length-sets c.args.buffer.now c.args.at (spaced (take at_place.next c.args.numbers.now)), c.requires, c.put_byte-number_at.ensures.value, ap length c.put_byte-number_at.ensures.buffer_after, length-set at_place.buffer at_place.end 32)
-
-pub loop-next-preserved : goal.loop-next-preserved
-loop-next-preserved c =
-    let at_place = c.loop-next in
-    (search rules, put_another c.args.buffer.now c.args.at c.args.numbers.now at_place.next c.loop-next-test.true at_place.invariant.1 (c.put_byte-number_at.ensures.value, c.put_byte-number_at.ensures.buffer_after) (c.put_number-end.ensures.value, c.put_number-end.ensures.buffer_after))
-
-pub shape_of-buffer : goal.shape_of-buffer
-shape_of-buffer c =
     let a = c.args in
-    ap length c.loop-next.invariant.1.1 ∙ length-sets a.buffer.now a.at (spaced (take c.loop-next.next a.numbers.now))
+    let at = c.loop-number.number-index in
+    omega (
+      arith,
+      spaced-length-more a.numbers.now at c.loop-number-test.true,
+      spaced_part a.numbers.now (at + 1),
+      ap length c.loop-number.invariant.1,
+      length-sets a.buffer.now a.at (spaced (take at a.numbers.now)),
+      ap length c.put_byte-number_at.ensures.buffer_after,
+      length-set c.loop-number.buffer c.loop-number.end 32,
+    )
 
-pub returns : goal.returns
-returns c =
-    let a = c.args in
-    let all = spaced_all a.numbers.now c.loop-next.next c.loop-next-test.false in
-    record { value = rw (← all) c.loop-next.invariant.1.0; buffer_after = rw (← all) c.loop-next.invariant.1.1 }
+pub loop-number-preserved : goal.loop-number-preserved
+loop-number-preserved c =
+    let space = c.put_byte-number_at.ensures in
+    let number = c.put_number-end.ensures in
+    put_another c.args.buffer.now c.args.at c.args.numbers.now c.loop-number.number-index c.loop-number-test.true c.loop-number.invariant
+    (space.value, space.buffer_after) (number.value, number.buffer_after)

@@ -9,7 +9,6 @@ use Rattle.words.specs.Words.{has, with_lock, without_lock}
 use Rattle.words.proofs.Sets.{has_in}
 use Rattle.cars.specs.Cars.{multiring}
 use Rattle.cars.specs.declared.Tag.{Tag}
-use Rattle.cars.specs.declared.Notice.{Notice}
 use Rattle.cars.specs.declared.Car.{Car}
 use Rattle.cars.specs.declared.Car.TheVariants.{Null, Reqp, Failp, Dov, Gotp, Didv}
 use Rattle.usernode.specs.declared.Node.{Node}
@@ -229,6 +228,6 @@ module _ {n : ℕ} {X Y : List Cell} {A : ℕ → Node} {k : ℕ} {u : Node} (x 
 
       notice : (b : Bool) → multiring m ≡ b
           → ((cond b (Gotp (record { lock = t.lock; source = suc k })) Null ≡ Null) × Gateless X × Gateless Y)
-          ⊎ ((y : Notice) × (cond b (Gotp (record { lock = t.lock; source = suc k })) Null ≡ Gotp y) × (y.source ≡ suc k) × (y.lock ≡ t.lock))
+          ⊎ ((y : Tag) × (cond b (Gotp (record { lock = t.lock; source = suc k })) Null ≡ Gotp y) × (y.source ≡ suc k) × (y.lock ≡ t.lock))
       notice true multi = inr (record { lock = t.lock; source = suc k }, refl, refl, refl)
       notice false ring = ⊎_elim (λ multi. absurd (true≢false (sym multi ∙ ring))) (λ g. inl (refl, g.0, g.1)) mode

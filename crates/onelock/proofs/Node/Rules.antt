@@ -1,4 +1,5 @@
 -- One user node's turn as one of nine cases, the rules of 01: what each asks of the arrival and the node, and what the node becomes.
+use Rattle.std.specs.Prelude.{Option, None, Some}
 use Prim.Native.Nat.{ℕ, ◌<◌, ◌^◌}
 use mathlib.Core.Path.{◌≡◌, refl, sym, ◌∙◌}
 use mathlib.Core.Bool.{Bool, true, false, cond, true≢false}
@@ -8,14 +9,13 @@ use borrow.Author.Tests.{eqb-true, eqb-false}
 use Rattle.words.specs.Words.{has, with_lock, without_lock, least}
 use Rattle.words.proofs.Sets.{least_member}
 use Rattle.cars.specs.declared.Tag.{Tag}
-use Rattle.cars.specs.declared.Notice.{Notice}
 use Rattle.cars.specs.declared.Car.{Car}
 use Rattle.cars.specs.declared.Car.TheVariants.{Idle, Token, Null, Reqp, Failp, Dov, Gotp, Didv}
 use Rattle.usernode.specs.declared.Node.{Node}
 use Rattle.usernode.specs.declared.Activity.{Activity}
 use Rattle.usernode.specs.declared.Activity.TheVariants.{Idle as Resting, ToSendReqp, WaitingReqp, ToSendDov, WaitingDov}
 use Rattle.turns.specs.declared.Event.{Event}
-use Rattle.turns.specs.declared.Event.TheVariants.{Nothing, Granted, Failed, Lost, Back, Sent}
+use Rattle.turns.specs.declared.Event.TheVariants.{Granted, Failed, Lost, Back, Sent}
 use Rattle.usernode.specs.declared.Rule.{Rule}
 use Rattle.usernode.specs.declared.Rule.TheVariants.{Passes, SendsDidv, OwnReqp, OwnFailp, FailsReqp, OwnDov, LosesLock}
 use Rattle.usernode.specs.Node.{had}
@@ -32,30 +32,30 @@ pub record Small (u : Node) : Type 0 where
 
 -- a notice names a lock below 64
 abbrev pub LowNotice : Car → Type 0
-LowNotice c = (x : Notice) → (c ≡ Gotp x) ⊎ (c ≡ Didv x) → x.lock < 64
+LowNotice c = (x : Tag) → (c ≡ Gotp x) ⊎ (c ≡ Didv x) → x.lock < 64
 
 -- the car is no request of this node
 abbrev pub NotOwn : ℕ → Car → Type 0
 NotOwn me a = (act : Activity) → request a ≡ asks act me → ⊥
 
 -- a turn's arrival, and the node and the event that it leads to: by each rule
-pub data Turned (m me : ℕ) (u : Node) : Car → Node → Event → Type 0 where
+pub data Turned (m me : ℕ) (u : Node) : Car → Node → Option Event → Type 0 where
   sends_reqp : (lock : ℕ) → u.flag ≡ true → u.activity ≡ ToSendReqp lock
-      → Turned m me u Idle (becomes u (Reqp (record { lock = lock; source = me })) (WaitingReqp lock) u.held u.letting) Nothing
+      → Turned m me u Idle (becomes u (Reqp (record { lock = lock; source = me })) (WaitingReqp lock) u.held u.letting) None
   sends_dov : (lock : ℕ) → u.flag ≡ true → u.activity ≡ ToSendDov lock
-      → Turned m me u Idle (becomes u (Dov (record { lock = lock; source = me })) (WaitingDov lock) u.held u.letting) Nothing
+      → Turned m me u Idle (becomes u (Dov (record { lock = lock; source = me })) (WaitingDov lock) u.held u.letting) None
   sends_didv : (lock : ℕ) → u.flag ≡ true → has u.letting lock ≡ true
-      → Turned m me u Idle (becomes u (Didv (record { lock = lock; source = me })) u.activity u.held (without_lock u.letting lock)) (Sent lock)
+      → Turned m me u Idle (becomes u (Didv (record { lock = lock; source = me })) u.activity u.held (without_lock u.letting lock)) (Some (Sent lock))
   own_reqp : (t : Tag) → t.source ≡ me
-      → Turned m me u (Reqp t) (becomes u (grant_car m me t.lock) Resting (with_lock u.held t.lock) u.letting) (Granted t.lock)
-  own_failp : (t : Tag) → t.source ≡ me → Turned m me u (Failp t) (becomes u Null Resting u.held u.letting) (Failed t.lock)
+      → Turned m me u (Reqp t) (becomes u (grant_car m me t.lock) Resting (with_lock u.held t.lock) u.letting) (Some (Granted t.lock))
+  own_failp : (t : Tag) → t.source ≡ me → Turned m me u (Failp t) (becomes u Null Resting u.held u.letting) (Some (Failed t.lock))
   fails_reqp : (t : Tag) → (t.source ≡ me → ⊥) → u.flag ≡ true
-      → Turned m me u (Reqp t) (becomes u (Failp t) u.activity u.held u.letting) Nothing
-  own_dov : (t : Tag) → t.source ≡ me → Turned m me u (Dov t) (becomes u Null Resting u.held u.letting) (Back t.lock)
+      → Turned m me u (Reqp t) (becomes u (Failp t) u.activity u.held u.letting) None
+  own_dov : (t : Tag) → t.source ≡ me → Turned m me u (Dov t) (becomes u Null Resting u.held u.letting) (Some (Back t.lock))
   loses_lock : (t : Tag) → (t.source ≡ me → ⊥) → has u.held t.lock ≡ true
-      → Turned m me u (Dov t) (becomes u (Dov t) u.activity (without_lock u.held t.lock) (let_go m u.letting t.lock)) (Lost t.lock)
+      → Turned m me u (Dov t) (becomes u (Dov t) u.activity (without_lock u.held t.lock) (let_go m u.letting t.lock)) (Some (Lost t.lock))
   passes : (a : Car) → NotOwn me a → ((t : Tag) → a ≡ Reqp t → u.flag ≡ true → had u t.lock ≡ false)
-      → Turned m me u a (becomes u a u.activity u.held u.letting) Nothing
+      → Turned m me u a (becomes u a u.activity u.held u.letting) None
 
 module _ (m me : ℕ) (u : Node) where
   -- a turn by the model's rule

@@ -1,4 +1,5 @@
 -- A user node's turn, whatever comes to it: the moves of Moves put together, by the rule that fits and by how the car stands in the train.
+use Rattle.std.specs.Prelude.{Option}
 use Prim.Native.Nat.{ℕ, suc, ◌≤◌}
 use mathlib.Core.Path.{◌≡◌, refl, sym, ap, ◌∙◌, subst}
 use mathlib.Core.Bool.{Bool, true, false, cond, true≢false}
@@ -55,7 +56,7 @@ arrived grown_car last head = as_car refl refl come_inside come_after
 arrived grown_token alone user = as_token refl come_inside come_after
 
 -- what the node sends, by its kind
-pub new_kind : {m me : ℕ} {u v : Node} {a : Car} {event : Event} → Turned m me u a v event → New (kind a) u.flag (kind v.car) v.flag
+pub new_kind : {m me : ℕ} {u v : Node} {a : Car} {event : Option Event} → Turned m me u a v event → New (kind a) u.flag (kind v.car) v.flag
 unfolding becomes flag_after grant_car
 new_kind {u = u} (sends_reqp lock f w) = subst (λ z. New gap z car z) (sym f) n_grow
 new_kind {u = u} (sends_dov lock f w) = subst (λ z. New gap z car z) (sym f) n_grow
@@ -180,7 +181,7 @@ module _ (n m : ℕ) (X Y : List Cell) (A : ℕ → Node) (e k : ℕ) (u : Node)
       (goes n X Y (pass_on x (Dov t) (λ act r. other (cc)) (λ t' r. (cc)) (here x (Dov t) i₁)) i₁))
 
   -- a node's turn keeps the invariant, by its rule and by how the car stands
-  pub user_turn : {p' p q : Phase} {a : Car} {v : Node} {event : Event} → Turned m (suc k) u a v event → Arrived p' p (kind a) u.flag q
+  pub user_turn : {p' p q : Phase} {a : Car} {v : Node} {event : Option Event} → Turned m (suc k) u a v event → Arrived p' p (kind a) u.flag q
       → (p ≡ before → NotOwn (suc k) a) → (p ≡ after → Bare Y) → (q ≡ after → u.flag ≡ true → e ≤ suc k)
       → Inv n e (X ++ (cells p k a ++ Y)) A → UserMoved n X Y A e k p' q v
   unfolding becomes grant_car

@@ -1,4 +1,5 @@
 -- What a node's turn and a release do to its having a lock, beside the deed that they are.
+use Rattle.std.specs.Prelude.{Option}
 use Prim.Native.Nat.{ℕ, ◌≤◌, ◌<◌}
 use mathlib.Core.Path.{◌≡◌, refl, ◌∙◌, ap, sym, subst}
 use mathlib.Core.Bool.{Bool, true, false, not, ◌&&◌, true≢false}
@@ -116,7 +117,7 @@ module _ (None : ℕ → Type 0) (rules me lock : ℕ) (u : Node) (f : Fine rule
       go false e = stays (granted_other u c act own low lock (λ same. eqb-false own lock e (sym same)))
 
   -- what a turn does to the lock, by its rule
-  by_rule : {a : Car} {v : Node} {event : Event} → Turned rules me u a v event → Awaited None me a u → Does v (deed_of rules lock me event)
+  by_rule : {a : Car} {v : Node} {event : Option Event} → Turned rules me u a v event → Awaited None me a u → Does v (deed_of rules lock me event)
   unfolding deed_of
   by_rule (sends_reqp own flag wish) back = stays (same_words u _ _ lock)
   by_rule (sends_dov own flag wish) back = stays (same_words u _ _ lock)

@@ -72,7 +72,7 @@ module _ (s : State) (g : Good s) where
   -- a node's turn in a step of the state, by the node's place
   node_turns : (lock place : ℕ) → place < node_count s.plan
       → Turns (NobodyHas s lock) (suc place) (having s lock (suc place)) (having (next_state s) lock (suc place))
-      (deed_of s.plan.rules lock (suc place) (get_or (walk s).events place quiet).event)
+      (deed_of s.plan.rules lock (suc place) (get_or (walk s).events place quiet))
   node_turns lock place l =
       let u : Upto (node_count s.plan) (suc place) = record { low = omega arith; high = l } in
       let m = met (suc place) u in

@@ -1,4 +1,5 @@
 -- What the deeds of one moment tell of a lock: who has it before and after, by node numbers; and that a plain lock goes along with it.
+use Rattle.std.specs.Prelude.{Option}
 use Prim.Native.Nat.{ℕ, zero, suc, ◌≤◌, ◌<◌}
 use mathlib.Core.Path.{◌≡◌, refl, ◌∙◌, ap, sym, subst}
 use mathlib.Core.Bool.{Bool, true, false, cond, true≢false}
@@ -7,8 +8,8 @@ use native.Mathlib.Omega.{arith}
 use lib.Dec.{lit≤}
 use lib.ListN.{get_or, length}
 use borrow.Author.Tests.{eq-eqb}
-use Rattle.ring.specs.declared.Happening.{Happening}
 use Rattle.ring.specs.Walk.{quiet}
+use Rattle.turns.specs.declared.Event.{Event}
 use Rattle.onelock.specs.OneLock.{Deed, granted, ended, deed_of, deeds_in, Lock, free, held_by, broken, after, after_moment, is_broken}
 use Rattle.lists.proofs.Tests.{by_number}
 use Rattle.onelock.proofs.Line.Numbers.{Upto}
@@ -68,8 +69,8 @@ module _ (all : ℕ) (A B : ℕ → Bool) (one : AtMostOne all A) (one' : AtMost
       absurd (omega (arith, u.high, one i (suc n) (wider all (omega arith) u) (wider all l (last n)) old old'))
 
   -- the deeds of the first nodes in a step
-  pub all_deeds_lem : (rules lock : ℕ) (events : List Happening)
-      → ((q : ℕ) → q < all → Turns (Nobody all A) (suc q) (A (suc q)) (B (suc q)) (deed_of rules lock (suc q) (get_or events q quiet).event))
+  pub all_deeds_lem : (rules lock : ℕ) (events : List (Option Event))
+      → ((q : ℕ) → q < all → Turns (Nobody all A) (suc q) (A (suc q)) (B (suc q)) (deed_of rules lock (suc q) (get_or events q quiet)))
       → (n : ℕ) → n ≤ all → Tells all n A B (deeds_in rules lock events n)
   unfolding deeds_in
   all_deeds_lem rules lock events each zero l = nothing (λ k u. absurd (omega (arith, u.low, u.high)))

@@ -8,12 +8,12 @@ use lib.Dec.{eqb}
 use lib.ListN.{get_or, set, length, length-set, length-replicate}
 use lib.Seq.{get_or-set_same, get_or-set_other}
 use borrow.Author.Tests.{eqb-true, eqb-false}
+use Rattle.cars.specs.declared.Car.TheVariants.{Idle}
 use Rattle.plan.specs.declared.Plan.{Plan}
 use Rattle.positions.specs.Ring.{Ring, no_more, user_node, a_junction, nodes_in, junctions_in}
 use Rattle.plan.specs.Plan.{ring_of, in_range}
 use Rattle.usernode.specs.declared.Node.{Node}
 use Rattle.junction.specs.declared.Junction.{Junction}
-use Rattle.zeronode.specs.Rules.{empty_slot}
 use Rattle.acts.specs.declared.Action.{Action}
 use Rattle.acts.specs.Actions.{acted}
 use Rattle.ring.specs.declared.State.{State}
@@ -31,7 +31,7 @@ use Rattle.onelock.proofs.State.Zero.{zero_places}
 -- the lists have their places at the start
 pub formed_start : (plan : Plan) → Formed (start_of plan)
 unfolding start_of
-formed_start plan = record { nodes = length-replicate 64 rest_node; junctions = length-replicate 144 rest_junction; queue = length-replicate 65 empty_slot }
+formed_start plan = record { nodes = length-replicate 64 rest_node; junctions = length-replicate 144 rest_junction; queue = length-replicate 65 Idle }
 
 -- a step leaves the places of the lists
 pub formed_next : (s : State) → Formed s → s.zeroth.count ≤ 65 → Formed (next_state s)

@@ -2,14 +2,13 @@
 use Prim.Native.Nat.{ℕ, suc, ◌+◌}
 use mathlib.Core.Path.{◌≡◌}
 use mathlib.Core.Bool.{Bool, false, ◌||◌}
-use mathlib.Core.List.{List, [], ◌∷◌}
+use mathlib.Core.List.{List}
 use lib.ListN.{get_or, take, length}
 use Rattle.cars.specs.declared.Car.{Car}
 use Rattle.positions.specs.Ring.{Ring, no_more, user_node, a_junction, nodes_in, junctions_in}
 use Rattle.plan.specs.Plan.{ring_of}
 use Rattle.usernode.specs.declared.Node.{Node}
 use Rattle.usernode.specs.Astray.{astray}
-use Rattle.zeronode.specs.declared.Slot.{Slot}
 use Rattle.zeronode.specs.declared.ZeroNode.{ZeroNode}
 use Rattle.junction.specs.declared.Junction.{Junction}
 use Rattle.ring.specs.declared.State.{State}
@@ -28,14 +27,9 @@ line_at (a_junction subring rest) nodes junctions i j =
 abbrev pub line_of : State → Line
 line_of s = line_at (ring_of s.plan) s.nodes s.junctions 0 0
 
--- the cars of slots
-abbrev pub cars_of : List Slot → List Car
-cars_of [] = []
-cars_of (slot ∷ slots) = slot.car ∷ cars_of slots
-
 -- the queue's cars of a zero node
 abbrev pub queue_of : ZeroNode → List Car
-queue_of z = cars_of (take z.count z.queue)
+queue_of z = take z.count z.queue
 
 -- some user node of the line is not ready for its own car
 abbrev pub strays : ℕ → Car → Line → Bool

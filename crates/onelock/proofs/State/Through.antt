@@ -20,7 +20,6 @@ use Rattle.usernode.specs.Astray.{astray}
 use Rattle.junction.specs.declared.Junction.{Junction}
 use Rattle.junction.specs.Turn.{junction_turn}
 use Rattle.ring.specs.declared.State.{State}
-use Rattle.ring.specs.declared.Happening.{Happening}
 use Rattle.ring.specs.State.{rest_node, rest_junction}
 use Rattle.ring.specs.Walk.{Walk, quiet, node_here, junction_here, turn_here, on_node, wanted, enters, leaves, along}
 use Rattle.ring.proofs.Routed.{along_passed, along_turned}
@@ -96,7 +95,7 @@ pub record Room (w : Walk) : Type 0 where
 pub record Made (s : State) (w : Walk) (number : ℕ) (arrival : Car) (u : Node) : Type 0 where
   pub old : get_or s.nodes (number - 1) rest_node ≡ u
   pub new : get_or w.nodes (number - 1) rest_node ≡ (turn s.plan.rules number arrival u).node
-  pub event : (get_or w.events (number - 1) quiet).event ≡ (turn s.plan.rules number arrival u).event
+  pub event : get_or w.events (number - 1) quiet ≡ (turn s.plan.rules number arrival u).event
 
 -- a part of a line, of the lists in which its nodes and junctions stand
 abbrev pub Part : Type 0
@@ -143,7 +142,7 @@ past_node s w =
       last = (came s w).car;
       astray = w.astray || astray (came s w) (suc w.passed) w.last;
       nodes = set w.nodes w.passed (its_turn s w).node;
-      events = set w.events w.passed (record { event = (its_turn s w).event });
+      events = set w.events w.passed (its_turn s w).event;
       junctions = w.junctions;
     }
 
@@ -180,10 +179,10 @@ made_node s w z x f l b =
     record {
       old = ap (λ (n : ℕ). get_or s.nodes n rest_node) e;
       new = ap (λ (n : ℕ). get_or x.nodes n rest_node) e ∙ node_after s w z x f l b;
-      event = ap (λ (n : ℕ). (get_or x.events n quiet).event) e ∙ ap (λ (h : Happening). h.event)
-          (b.events w.passed (omega arith) (omega (arith, l.further))
+      event = ap (λ (n : ℕ). get_or x.events n quiet) e
+          ∙ b.events w.passed (omega arith) (omega (arith, l.further))
           ∙ l.events w.passed (omega arith)
-          ∙ get_or-set_same w.events w.passed _ quiet (omega (arith, l.further, f.events, l.event_places, (later_node s w).event_places)));
+          ∙ get_or-set_same w.events w.passed _ quiet (omega (arith, l.further, f.events, l.event_places, (later_node s w).event_places));
     }
 
 -- along a user node and what is behind it

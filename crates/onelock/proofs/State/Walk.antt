@@ -61,7 +61,7 @@ line_next s r f = ((goes_walk s).after (walk s) (has_room s r f) (between_self (
 pub record Acts (s : State) (number : ℕ) (arrival : Car) (u : Node) : Type 0 where
   pub old : node_of s number ≡ u
   pub new : node_of (next_state s) number ≡ (turn s.plan.rules number arrival u).node
-  pub event : (get_or (walk s).events (number - 1) quiet).event ≡ (turn s.plan.rules number arrival u).event
+  pub event : get_or (walk s).events (number - 1) quiet ≡ (turn s.plan.rules number arrival u).event
 
 -- what the walk made of a node is what it is in the next state
 made_acts : (s : State) (number : ℕ) (arrival : Car) (u : Node) → Made s (walk s) number arrival u → Acts s number arrival u

@@ -11,28 +11,17 @@ use lib.Seq.{take_at, length-take-le, take-suc-set}
 use borrow.Author.Tests.{leb-false, lt-ltb, le-leb, lt-leb}
 use Rattle.cars.specs.declared.Car.{Car}
 use Rattle.cars.specs.declared.Car.TheVariants.{Idle, Token, Null, Reqp, Failp, Dov, Gotp, Didv}
-use Rattle.zeronode.specs.declared.Slot.{Slot}
 use Rattle.zeronode.specs.declared.ZeroNode.{ZeroNode}
 use Rattle.zeronode.specs.declared.ZeroRule.{ZeroRule}
 use Rattle.zeronode.specs.declared.ZeroRule.TheVariants.{SendsIdle, SendsToken, SendsHead}
 use Rattle.zeronode.specs.Rules.{on_token, on_head, zero_rule, keeps}
 use Rattle.zeronode.specs.Turn.{shifted, head_off, sends, appended, arrives, zero_turn, count_left, overflows}
 use Rattle.onelock.proofs.Whole.Zero.{sent_by, left_by, kept, queue_after}
-use Rattle.onelock.proofs.State.AsLine.{cars_of, queue_of}
-
--- the cars of slots put together
-cars_append : (a b : List Slot) → cars_of (a ++ b) ≡ cars_of a ++ cars_of b
-cars_append [] b = refl
-cars_append (slot ∷ a) b = ap (λ (cs : List Car). slot.car ∷ cs) (cars_append a b)
-
--- they are as many as the slots
-cars_length : (slots : List Slot) → length (cars_of slots) ≡ length slots
-cars_length [] = refl
-cars_length (slot ∷ slots) = ap suc (cars_length slots)
+use Rattle.onelock.proofs.State.AsLine.{queue_of}
 
 -- the queue has its count of cars
 pub queue_length : (z : ZeroNode) → z.count ≤ length z.queue → length (queue_of z) ≡ z.count
-queue_length z c = cars_length (take z.count z.queue) ∙ length-take-le z.count z.queue c
+queue_length z c = length-take-le z.count z.queue c
 
 -- the zero node as it sends: its queue is one of 65 places, it sends this car and has these cars left
 record Sends (z x : ZeroNode) (y : Car) : Type 0 where
@@ -42,45 +31,45 @@ record Sends (z x : ZeroNode) (y : Car) : Type 0 where
   most : x.count ≤ 65
 
 -- the head taken off a queue leaves its places
-shifted-length : (slot : Slot) (slots : List Slot) (c : ℕ) → c ≤ length slots → length (shifted (slot ∷ slots) (suc c)) ≡ suc (length slots)
+shifted-length : (first : Car) (cars : List Car) (c : ℕ) → c ≤ length cars → length (shifted (first ∷ cars) (suc c)) ≡ suc (length cars)
 unfolding shifted
-shifted-length slot slots c h =
+shifted-length first cars c h =
     let e : suc c - 1 ≡ c = omega arith in
-    rw (e, length-append) (omega (arith, length-take-le c slots h, length-drop c slots))
+    rw (e, length-append) (omega (arith, length-take-le c cars h, length-drop c cars))
 
 -- the queue then has the cars behind the head
-shifted_queue : (slot : Slot) (slots : List Slot) (c : ℕ) → c ≤ length slots → take (suc c - 1) (shifted (slot ∷ slots) (suc c)) ≡ take c slots
+shifted_queue : (first : Car) (cars : List Car) (c : ℕ) → c ≤ length cars → take (suc c - 1) (shifted (first ∷ cars) (suc c)) ≡ take c cars
 unfolding shifted
-shifted_queue slot slots c h =
+shifted_queue first cars c h =
     let e : suc c - 1 ≡ c = omega arith in
-    rw e (take_at (take c slots) _ c (length-take-le c slots h))
+    rw e (take_at (take c cars) _ c (length-take-le c cars h))
 
 -- a queue with this head, and behind it these places, of which c are in use
-abbrev headed : Car → Car → List Slot → ℕ → ZeroNode
-headed old head slots c = record { car = old; queue = record { car = head } ∷ slots; count = suc c }
+abbrev headed : Car → Car → List Car → ℕ → ZeroNode
+headed old head cars c = record { car = old; queue = head ∷ cars; count = suc c }
 
-module _ (old : Car) (slots : List Slot) (c : ℕ) (l : length slots ≡ 64) (h : c ≤ 64) where
+module _ (old : Car) (cars : List Car) (c : ℕ) (l : length cars ≡ 64) (h : c ≤ 64) where
   -- its head is sent
-  head_sent : (head y sent : Car) → sent_by (queue_of (headed old head slots c)) y ≡ sent → left_by (queue_of (headed old head slots c)) y ≡ cars_of (take c slots)
-      → Sends (headed old head slots c) (head_off (headed old head slots c) sent) y
+  head_sent : (head y sent : Car) → sent_by (queue_of (headed old head cars c)) y ≡ sent → left_by (queue_of (headed old head cars c)) y ≡ take c cars
+      → Sends (headed old head cars c) (head_off (headed old head cars c) sent) y
   unfolding head_off
   head_sent head y sent s b =
       record {
         car = sym s;
-        left = ap cars_of (shifted_queue (record { car = head }) slots c (omega arith)) ∙ sym b;
-        places = shifted-length (record { car = head }) slots c (omega arith) ∙ ap suc l;
+        left = shifted_queue head cars c (omega arith) ∙ sym b;
+        places = shifted-length head cars c (omega arith) ∙ ap suc l;
         most = omega arith;
       }
 
   -- its head, the token, waits
-  head_waits : (y : Car) → sent_by (queue_of (headed old Token slots c)) y ≡ Idle
-      → left_by (queue_of (headed old Token slots c)) y ≡ queue_of (headed old Token slots c)
-      → Sends (headed old Token slots c) (sends (headed old Token slots c) SendsIdle) y
+  head_waits : (y : Car) → sent_by (queue_of (headed old Token cars c)) y ≡ Idle
+      → left_by (queue_of (headed old Token cars c)) y ≡ queue_of (headed old Token cars c)
+      → Sends (headed old Token cars c) (sends (headed old Token cars c) SendsIdle) y
   unfolding sends
   head_waits y s b = record { car = sym s; left = sym b; places = ap suc l; most = omega arith }
 
   -- what is sent where the token is the head, by the arrival
-  sends_token : (y : Car) → Sends (headed old Token slots c) (sends (headed old Token slots c) (on_token y)) y
+  sends_token : (y : Car) → Sends (headed old Token cars c) (sends (headed old Token cars c) (on_token y)) y
   unfolding sends on_token
   sends_token Idle = head_sent Token Idle Token refl refl
   sends_token Token = head_waits Token refl refl
@@ -92,7 +81,7 @@ module _ (old : Car) (slots : List Slot) (c : ℕ) (l : length slots ≡ 64) (h 
   sends_token (Didv notice) = head_waits (Didv notice) refl refl
 
   -- what is sent, whatever the head is
-  sends_head : (head y : Car) → Sends (headed old head slots c) (sends (headed old head slots c) (on_head head y)) y
+  sends_head : (head y : Car) → Sends (headed old head cars c) (sends (headed old head cars c) (on_head head y)) y
   unfolding sends on_head
   sends_head Token y = sends_token y
   sends_head Idle y = head_sent Idle y Idle refl refl
@@ -108,12 +97,12 @@ sending : (z : ZeroNode) (y : Car) → length z.queue ≡ 65 → z.count ≤ 65 
 unfolding zero_rule sends
 sending z y l c = go z.car z.queue z.count l c
   where
-    go : (old : Car) (queue : List Slot) (count : ℕ) → length queue ≡ 65 → count ≤ 65
+    go : (old : Car) (queue : List Car) (count : ℕ) → length queue ≡ 65 → count ≤ 65
         → Sends (record { car = old; queue = queue; count = count }) (sends (record { car = old; queue = queue; count = count })
         (zero_rule (record { car = old; queue = queue; count = count }) y)) y
     go old queue zero l c = record { car = refl; left = refl; places = l; most = c }
     go old [] (suc count) l c = absurd (omega arith)
-    go old (slot ∷ slots) (suc count) l c = rw eqb-suc-zero (sends_head old slots count (omega arith) (omega arith) slot.car y)
+    go old (first ∷ cars) (suc count) l c = rw eqb-suc-zero (sends_head old cars count (omega arith) (omega arith) first y)
 
 -- the count that is left is the model's
 count_left_lem : (z : ZeroNode) (rule : ZeroRule) → count_left z rule ≡ (sends z rule).count
@@ -134,7 +123,7 @@ append-arrives x y l c =
     let room : x.count < length x.queue = omega arith in
     rw (lt-ltb x.count 65 c) (record {
       car = refl;
-      queue = rw (add-one, take-suc-set x.queue x.count (record { car = y }) room) (cars_append (take x.count x.queue) _);
+      queue = rw (add-one, take-suc-set x.queue x.count y room) refl;
     })
 
 -- the arrival appended if it is kept

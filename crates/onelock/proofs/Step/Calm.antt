@@ -1,5 +1,6 @@
 -- Nodes that do not wait: where the train has not come to them they do not come to wait. So no request of a subring's node is on a train that goes
 -- past the subring.
+use Rattle.std.specs.Prelude.{Option}
 use Prim.Native.Nat.{ℕ, suc}
 use mathlib.Core.Path.{◌≡◌, refl, sym, ◌∙◌}
 use mathlib.Core.Bool.{Bool, false, not, true≢false}
@@ -23,7 +24,7 @@ use Rattle.onelock.proofs.Node.Rules.{Small, Turned, sends_reqp, sends_dov, send
 use Rattle.onelock.proofs.Node.Rules.{turned}
 
 -- a node off the train does not come to wait
-turned_calm : {m me : ℕ} {u v : Node} {a : Car} {event : Event} → Turned m me u a v event → u.flag ≡ false → waits u.activity ≡ false
+turned_calm : {m me : ℕ} {u v : Node} {a : Car} {event : Option Event} → Turned m me u a v event → u.flag ≡ false → waits u.activity ≡ false
     → waits v.activity ≡ false
 unfolding becomes
 turned_calm (sends_reqp lock f w) clear calm = absurd (true≢false (sym f ∙ clear))

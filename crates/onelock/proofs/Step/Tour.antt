@@ -7,7 +7,7 @@ use lib.Dec.{eqb}
 use Rattle.words.specs.Words.{has, with_lock, without_lock}
 use Rattle.words.proofs.Sets.{has_with, has-without}
 use Rattle.cars.specs.Cars.{flag_after}
-use Rattle.cars.specs.declared.Notice.{Notice}
+use Rattle.cars.specs.declared.Tag.{Tag}
 use Rattle.cars.specs.declared.Car.{Car}
 use Rattle.cars.specs.declared.Car.TheVariants.{Idle, Token, Null, Reqp, Failp, Dov, Gotp, Didv}
 use Rattle.junction.specs.declared.Junction.{Junction}
@@ -111,7 +111,7 @@ module _ (w : Bool) (j : Junction) (lo hi : ℕ) (wants : Bool) (a : Car) (tour 
   plain_turn y plain = record { word = j.word; is = refl; bits = plain }
 
   -- a gotp of this subring sets the lock's bit
-  gotp_turn : (x : Notice) → x.lock < 64 → (b : Bool) → within lo hi x.source ≡ b
+  gotp_turn : (x : Tag) → x.lock < 64 → (b : Bool) → within lo hi x.source ≡ b
       → CarTurn (junction_apply a (Gotp x) j (cond b (SetsBit x.lock) CarOut)) (Gotp x)
   unfolding junction_apply
   gotp_turn x low true e =
@@ -130,7 +130,7 @@ module _ (w : Bool) (j : Junction) (lo hi : ℕ) (wants : Bool) (a : Car) (tour 
   gotp_turn x low false e = plain_turn (Gotp x) (λ lock. ap (λ (z : Bool). cond (z && eqb lock x.lock) true (has j.word lock)) (sym e))
 
   -- a didv of this subring clears the lock's bit
-  didv_turn : (x : Notice) → x.lock < 64 → (b : Bool) → within lo hi x.source ≡ b
+  didv_turn : (x : Tag) → x.lock < 64 → (b : Bool) → within lo hi x.source ≡ b
       → CarTurn (junction_apply a (Didv x) j (cond b (ClearsBit x.lock) CarOut)) (Didv x)
   unfolding junction_apply
   didv_turn x low true e =

@@ -1,4 +1,5 @@
 -- The one induction at a user node: the rest of the line has made its step, and now the node takes its turn.
+use Rattle.std.specs.Prelude.{Option}
 use Prim.Native.Nat.{ℕ, suc, ◌+◌, ◌≤◌}
 use mathlib.Core.Path.{◌≡◌, sym, ap, ap₂, ◌∙◌, subst}
 use mathlib.Core.Bool.{Bool, true, false, true≢false}
@@ -29,7 +30,7 @@ use Rattle.onelock.proofs.Node.Turn.{Arrived, as_shadow, as_gap, as_token, as_ca
 use Rattle.onelock.proofs.Step.Setting.{Setting, Moved, three}
 
 -- before the train, a node sends no request but what came to it
-turned_clean : {m me : ℕ} {u v : Node} {a : Car} {event : Event} → Turned m me u a v event → u.flag ≡ false → NotOwn me a
+turned_clean : {m me : ℕ} {u v : Node} {a : Car} {event : Option Event} → Turned m me u a v event → u.flag ≡ false → NotOwn me a
     → (act : Activity) (s : ℕ) → request v.car ≡ asks act s → request a ≡ asks act s
 unfolding becomes
 turned_clean (sends_reqp lock f w) off other act s r = absurd (true≢false (sym f ∙ off))

@@ -9,7 +9,6 @@ use lib.Dec.{ltb}
 use borrow.Author.Tests.{ltb-true, ltb-false}
 use Rattle.words.specs.Words.{has}
 use Rattle.cars.specs.declared.Tag.{Tag}
-use Rattle.cars.specs.declared.Notice.{Notice}
 use Rattle.cars.specs.declared.Car.{Car}
 use Rattle.cars.specs.declared.Car.TheVariants.{Idle, Token, Null, Reqp, Failp, Dov, Gotp, Didv}
 use Rattle.usernode.specs.declared.Node.{Node}
@@ -55,7 +54,7 @@ module _ (n : ℕ) where
     pub visits : (t : Tag) → c' ≡ Reqp t → (k : ℕ) → had (A k) t.lock ≡ true → Visits n k p (home n p t.source) → Visits n k p' (home n p' t.source)
     pub note : noticed c' ≤ p'
     pub bits : (lo hi lock : ℕ) (b : Bool) → bit lo hi lock c' b ≡ bit lo hi lock c b
-    pub did : (x : Notice) → c' ≡ Didv x → c ≡ Didv x
+    pub did : (x : Tag) → c' ≡ Didv x → c ≡ Didv x
 
   -- the invariant of new cells, the nodes being as they are
   same_nodes : {e e' : ℕ} {T T' : List Cell} {A : ℕ → Node} → All (Ok n A e') T' → Rises n 0 T' (n + e') → ((lock : ℕ) → Did n lock T' A) → Words A T'
@@ -223,7 +222,7 @@ module _ (n : ℕ) where
         ⊎_elim (λ a. inl (all_tail _ X Y (cell q c ∷ Y) (λ y. (λ x r l. true≢false (no_did x r), y)) a))
         (λ a. inr (a.0, all_tail _ X Y (cell q c ∷ Y) (λ y. (λ t r l. omega (arith, own_home t.source (own_tag t r)), y)) a.1))
       where
-        no_did : (x : Notice) → c ≡ Didv x → true ≡ false
+        no_did : (x : Tag) → c ≡ Didv x → true ≡ false
         no_did x r = let d : request c ≡ none = ap request r in cc
 
     -- so it is a car of the train
@@ -277,7 +276,7 @@ module _ (n : ℕ) where
   -- a car that the zero node keeps, at place 0 again
   module _ (c : Car) (kept : keeps c ≡ true) where
     -- it is no didv
-    kept_did : (x : Notice) → c ≡ Didv x → ⊥
+    kept_did : (x : Tag) → c ≡ Didv x → ⊥
     unfolding keeps
     kept_did x r = true≢false (sym kept ∙ ap keeps r)
 

@@ -8,7 +8,7 @@ use lib.Dec.{eqb, ltb, leb}
 use borrow.Author.Tests.{lt-ltb, le-ltb, le-leb, ltb-true, leb-true, eq-eqb, eqb-true}
 use Rattle.lists.proofs.Laws.{and_left, and_right}
 use Rattle.words.specs.Words.{has}
-use Rattle.cars.specs.declared.Notice.{Notice}
+use Rattle.cars.specs.declared.Tag.{Tag}
 use Rattle.cars.specs.declared.Car.{Car}
 use Rattle.cars.specs.declared.Car.TheVariants.{Idle, Token, Null, Reqp, Failp, Dov, Gotp, Didv}
 use Rattle.usernode.specs.declared.Node.{Node}
@@ -115,7 +115,7 @@ bit_far lo hi lock (Gotp notice) b h = rw (le-ltb lo notice.source h)
 bit_far lo hi lock (Didv notice) b h = rw (le-ltb lo notice.source h)
 
 -- what holds both where a notice is of a gate's nodes and of a lock, and where it is not, holds
-pub mine_case : (P : Bool → Type 0) (lo hi lock : ℕ) (x : Notice) → (lo < x.source → x.source ≤ hi → lock ≡ x.lock → P true)
+pub mine_case : (P : Bool → Type 0) (lo hi lock : ℕ) (x : Tag) → (lo < x.source → x.source ≤ hi → lock ≡ x.lock → P true)
     → ((lo < x.source → x.source ≤ hi → lock ≡ x.lock → ⊥) → P false) → P (mine lo hi lock x)
 unfolding within
 mine_case P lo hi lock x yours others =
@@ -126,7 +126,7 @@ mine_case P lo hi lock x yours others =
     (λ e. others (λ l h s. false≢true (sym e ∙ simp (lt-ltb _ _ l, le-leb _ _ h, eq-eqb _ _ s))))
 
 -- a car that is no didv for the lock leaves a true bit of the lock true
-bit_kept : (lo hi lock : ℕ) (c : Car) → ((x : Notice) → c ≡ Didv x → x.lock ≡ lock → ⊥) → bit lo hi lock c true ≡ true
+bit_kept : (lo hi lock : ℕ) (c : Car) → ((x : Tag) → c ≡ Didv x → x.lock ≡ lock → ⊥) → bit lo hi lock c true ≡ true
 bit_kept lo hi lock Idle a = refl
 bit_kept lo hi lock Token a = refl
 bit_kept lo hi lock Null a = refl

@@ -7,7 +7,7 @@ use mathlib.Core.Logic.{◌⊎◌}
 use mathlib.Core.List.{List, [], ◌∷◌}
 use lib.Dec.{eqb, ltb}
 use Rattle.words.specs.Words.{has}
-use Rattle.cars.specs.declared.Notice.{Notice}
+use Rattle.cars.specs.declared.Tag.{Tag}
 use Rattle.cars.specs.declared.Car.{Car}
 use Rattle.cars.specs.declared.Car.TheVariants.{Idle, Token, Null, Reqp, Failp, Dov, Gotp, Didv}
 use Rattle.usernode.specs.declared.Node.{Node}
@@ -74,7 +74,7 @@ noticed (Gotp notice) = notice.source
 noticed (Didv notice) = notice.source
 
 -- a notice is of one of the nodes lo + 1 to hi, and of the lock
-abbrev pub mine : ℕ → ℕ → ℕ → Notice → Bool
+abbrev pub mine : ℕ → ℕ → ℕ → Tag → Bool
 mine lo hi lock notice = within lo hi notice.source && eqb lock notice.lock
 
 -- a word's bit of a lock after a car has left the junction with nodes lo + 1 to hi

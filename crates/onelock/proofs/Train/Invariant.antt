@@ -7,7 +7,6 @@ use mathlib.Core.Logic.{◌⊎◌}
 use mathlib.Core.List.{List, [], ◌∷◌}
 use Rattle.words.specs.Words.{has}
 use Rattle.cars.specs.declared.Tag.{Tag}
-use Rattle.cars.specs.declared.Notice.{Notice}
 use Rattle.cars.specs.declared.Car.{Car}
 use Rattle.cars.specs.declared.Car.TheVariants.{Reqp, Didv}
 use Rattle.usernode.specs.declared.Node.{Node}
@@ -40,7 +39,7 @@ module _ (n : ℕ) where
 
   -- a didv for the lock is in no cell
   abbrev pub NoDid : ℕ → List Cell → Type 0
-  NoDid lock = All (λ p c. (x : Notice) → c ≡ Didv x → x.lock ≡ lock → ⊥)
+  NoDid lock = All (λ p c. (x : Tag) → c ≡ Didv x → x.lock ≡ lock → ⊥)
 
   -- each reqp for the lock comes home with the next train
   abbrev pub Late : ℕ → List Cell → Type 0

@@ -9,7 +9,6 @@ use native.Mathlib.Omega.{arith}
 use lib.Dec.{ltb}
 use borrow.Author.Tests.{ltb-true}
 use Rattle.cars.specs.declared.Tag.{Tag}
-use Rattle.cars.specs.declared.Notice.{Notice}
 use Rattle.cars.specs.declared.Car.{Car}
 use Rattle.cars.specs.declared.Car.TheVariants.{Null, Reqp, Gotp, Didv}
 use Rattle.usernode.specs.declared.Node.{Node}
@@ -45,7 +44,7 @@ words_before t A q v g =
     words_same t A (put A q v) (gates_map t (λ lo hi below k lock l h. put_same A q v lock k (λ here. absurd (omega arith))) g)
 
 -- a bit that is not the one which a notice of the node put anew is for stays right, where nothing but the notice's lock has changed
-right_else : (A : ℕ → Node) (q : ℕ) (v : Node) (x : Notice) {lo hi lock : ℕ} {b : Bool} → x.source ≡ q
+right_else : (A : ℕ → Node) (q : ℕ) (v : Node) (x : Tag) {lo hi lock : ℕ} {b : Bool} → x.source ≡ q
     → ((lock : ℕ) → (lock ≡ x.lock → ⊥) → had v lock ≡ had (A q) lock)
     → (lo < x.source → x.source ≤ hi → lock ≡ x.lock → ⊥) → Right A lo hi lock b → Right (put A q v) lo hi lock b
 right_else A q v x {lock = lock} source same other =
@@ -133,7 +132,7 @@ module _ (n : ℕ) where
   fewer T {A} q v less serves apart gateless i = shrinks T q v less serves apart (words_none T (put A q v) gateless) i
 
   -- node q sends the didv for a lock that it had, at the rear: the new rear is q
-  pub adds_did : (X Y : List Cell) {A : ℕ → Node} {e : ℕ} (q : ℕ) (v : Node) (x : Notice) → x.source ≡ q
+  pub adds_did : (X Y : List Cell) {A : ℕ → Node} {e : ℕ} (q : ℕ) (v : Node) (x : Tag) → x.source ≡ q
       → had (A q) x.lock ≡ true → had v x.lock ≡ false → ((lock : ℕ) → (lock ≡ x.lock → ⊥) → had v lock ≡ had (A q) lock)
       → v.activity ≡ (A q).activity → Apart v
       → Bare Y → Gates (λ lo hi. hi < q) Y → e ≤ q → All (λ p c. q ≤ p) X
@@ -264,7 +263,7 @@ module _ (n : ℕ) where
 
   -- node p + 1's own reqp comes back to it: it is granted the lock, and sends null where there is no gate, else the gotp
   pub grants : (X Y : List Cell) {A : ℕ → Node} {e : ℕ} (p : ℕ) (v : Node) (c' : Car) (t : Tag) → t.source ≡ suc p → suc p ≤ n
-      → ((c' ≡ Null) × Gateless X × Gateless Y) ⊎ ((x : Notice) × (c' ≡ Gotp x) × (x.source ≡ suc p) × (x.lock ≡ t.lock))
+      → ((c' ≡ Null) × Gateless X × Gateless Y) ⊎ ((x : Tag) × (c' ≡ Gotp x) × (x.source ≡ suc p) × (x.lock ≡ t.lock))
       → had v t.lock ≡ true → ((lock : ℕ) → (lock ≡ t.lock → ⊥) → had v lock ≡ had (A (suc p)) lock)
       → Apart v
       → All (λ q c. suc p ≤ q) X → All (λ q c. q ≤ p) Y → Gates (λ lo hi. hi ≤ p) Y
@@ -298,7 +297,7 @@ module _ (n : ℕ) where
       silent : Silent c'
       silent = ⊎_elim (λ z. subst Silent (sym z.0) none_asks) (λ z. subst Silent (sym z.1) none_asks) kind
 
-      no_didv : (x : Notice) → c' ≡ Didv x → ⊥
+      no_didv : (x : Tag) → c' ≡ Didv x → ⊥
       no_didv x r = ⊎_elim (λ z. false≢true (cc z.0)) (λ z. false≢true (cc z.1)) kind
 
       note : noticed c' ≤ suc p
@@ -324,7 +323,7 @@ module _ (n : ℕ) where
       less : (lock : ℕ) → (lock ≡ t.lock → ⊥) → (k : ℕ) → had (B k) lock ≡ true → had (A k) lock ≡ true
       less lock other k h = sym (put_same A (suc p) v lock k (λ here. same lock other)) ∙ h
 
-      bits : (x : Notice) → x.source ≡ suc p → x.lock ≡ t.lock → (lo hi lock : ℕ) (b : Bool)
+      bits : (x : Tag) → x.source ≡ suc p → x.lock ≡ t.lock → (lo hi lock : ℕ) (b : Bool)
           → Right A lo hi lock (fold lo hi lock b old) → Right B lo hi lock (fold lo hi lock b (cell (suc p) (Gotp x) ∷ Y))
       bits x own at-lock lo hi lock b r =
           mine_case (λ m. Right B lo hi lock (fold lo hi lock (cond m true b) Y)) lo hi lock x

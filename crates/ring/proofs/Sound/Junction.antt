@@ -9,7 +9,7 @@ use Rattle.words.specs.Words.{has, all_below}
 use Rattle.words.proofs.Sets.{with_within, without-within}
 use Rattle.lists.proofs.Laws.{and_left, and_right}
 use Rattle.lists.proofs.Tests.{and_both, by_test}
-use Rattle.cars.specs.declared.Notice.{Notice}
+use Rattle.cars.specs.declared.Tag.{Tag}
 use Rattle.cars.specs.declared.Car.{Car}
 use Rattle.cars.specs.declared.Car.TheVariants.{Idle, Token, Null, Reqp, Failp, Dov, Gotp, Didv}
 use Rattle.cars.specs.Cars.{multiring, names, notice_names, car_names}
@@ -56,14 +56,14 @@ module _ (rules nodes locks : ℕ) where
   train_names train r e = by_test Named train (λ t. e) (λ t. refl)
 
   -- a gotp's lock is there
-  gotp_names : (low high : ℕ) (notice : Notice) → notice_names rules nodes locks notice ≡ true → Named (on_gotp low high notice)
+  gotp_names : (low high : ℕ) (notice : Tag) → notice_names rules nodes locks notice ≡ true → Named (on_gotp low high notice)
   unfolding junction_names on_gotp notice_names
   gotp_names low high notice c =
       let named = and_right (multiring rules) (names nodes locks notice.lock notice.source) c in
       by_test Named (within low high notice.source) (λ e. lt-ltb _ _ (names_lock nodes locks notice.lock notice.source named)) (λ e. refl)
 
   -- a didv's lock is cleared in any case
-  didv_names : (low high : ℕ) (notice : Notice) → Named (on_didv low high notice)
+  didv_names : (low high : ℕ) (notice : Tag) → Named (on_didv low high notice)
   unfolding junction_names on_didv
   didv_names low high notice = by_test Named (within low high notice.source) (λ e. refl) (λ e. refl)
 

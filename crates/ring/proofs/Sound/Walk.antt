@@ -5,6 +5,7 @@ use mathlib.Core.Path.{◌≡◌, refl, ap, subst₂}
 use mathlib.Core.Bool.{Bool, true, false}
 use native.Mathlib.Omega.{arith}
 use lib.ListN.{get_or, replicate}
+use Rattle.std.proofs.Common.{Option}
 use borrow.Author.Tests.{le-leb}
 use Rattle.lists.proofs.Laws.{every_each}
 use Rattle.lists.proofs.Tests.{and_both}
@@ -15,11 +16,11 @@ use Rattle.plan.specs.Plan.{node_places, ring_of, node_count, junction_count}
 use Rattle.plan.proofs.Laws.{in_range_lem, counted, junctions_counted}
 use Rattle.usernode.specs.declared.Node.{Node}
 use Rattle.usernode.specs.Sound.{node_sound}
+use Rattle.turns.specs.declared.Event.{Event}
 use Rattle.turns.specs.Turn.{event_lock}
 use Rattle.junction.specs.declared.Junction.{Junction}
 use Rattle.junction.specs.Sound.{junction_sound}
 use Rattle.ring.specs.declared.State.{State}
-use Rattle.ring.specs.declared.Happening.{Happening}
 use Rattle.ring.specs.State.{rest_node, rest_junction}
 use Rattle.ring.specs.Sound.{zero_passes, node_passes, junction_passes, sound}
 use Rattle.ring.specs.Walk.{Walk, quiet, node_here, junction_here, turn_here, on_node, wanted, enters, leaves, along, setting_out, walk}
@@ -51,8 +52,8 @@ module _ (s : State) (e : sound s ≡ true) where
   JunctionOk junction = junction_sound rules nodes locks junction ≡ true
 
   -- what happened at a node names a lock of the plan
-  abbrev EventOk : Happening → Type 0
-  EventOk happening = event_lock happening.event < locks
+  abbrev EventOk : Option Event → Type 0
+  EventOk event = event_lock event < locks
 
   -- a walk that has passed n nodes and turned j junctions, and whose car, nodes and junctions 13 does not refuse
   record Walks (n j : ℕ) (w : Walk) : Type 0 where
@@ -164,9 +165,9 @@ next_sound state e =
     })
 
 -- and what happens in it names locks of the plan
-pub walk-events : (state : State) → sound state ≡ true → (place : ℕ) → event_lock (get_or (walk state).events place quiet).event < state.plan.locks
+pub walk-events : (state : State) → sound state ≡ true → (place : ℕ) → event_lock (get_or (walk state).events place quiet) < state.plan.locks
 unfolding walk
 walk-events state e place = (walked state e).events_name place
 
-pub no-events : (state : State) → sound state ≡ true → (place : ℕ) → event_lock (get_or (replicate node_places quiet) place quiet).event < state.plan.locks
+pub no-events : (state : State) → sound state ≡ true → (place : ℕ) → event_lock (get_or (replicate node_places quiet) place quiet) < state.plan.locks
 no-events state e place = place_default (EventOk state e) quiet node_places place (quiet-names state e)

@@ -17,7 +17,6 @@ use Rattle.lists.proofs.Places.{place_set, place_stored, place_parted}
 use Rattle.cars.specs.declared.Car.{Car}
 use Rattle.cars.specs.declared.Car.TheVariants.{Idle, Token, Null, Reqp, Failp, Dov, Gotp, Didv}
 use Rattle.cars.specs.Cars.{car_names}
-use Rattle.zeronode.specs.declared.Slot.{Slot}
 use Rattle.zeronode.specs.declared.ZeroNode.{ZeroNode}
 use Rattle.zeronode.specs.declared.ZeroRule.{ZeroRule}
 use Rattle.zeronode.specs.declared.ZeroRule.TheVariants.{SendsIdle, SendsToken, SendsHead}
@@ -26,15 +25,15 @@ use Rattle.zeronode.specs.Turn.{shifted, head_off, sends, appended, arrives, zer
 use Rattle.zeronode.specs.Sound.{place_names, zero_sound}
 
 module _ (rules nodes locks : ℕ) where
-  -- a slot's car names only what is there
-  abbrev SlotNames : Slot → Type 0
-  SlotNames slot = car_names rules nodes locks slot.car ≡ true
+  -- a car names only what is there
+  abbrev CarNames : Car → Type 0
+  CarNames car = car_names rules nodes locks car ≡ true
 
   -- what 13 asks of the zero node, each thing by itself
   record ZeroInPlan (node : ZeroNode) : Type 0 where
     most : node.count ≤ 65
     sent : car_names rules nodes locks node.car ≡ true
-    queue : (i : ℕ) → i < node.count → SlotNames (get_or node.queue i empty_slot)
+    queue : (i : ℕ) → i < node.count → CarNames (get_or node.queue i empty_slot)
 
   -- the test of the zero node says each of these
   zero_in_plan : (node : ZeroNode) → zero_sound rules nodes locks node ≡ true → ZeroInPlan node
@@ -56,8 +55,8 @@ module _ (rules nodes locks : ℕ) where
   in_plan_zero node f =
       and_both (and_both (le-leb _ _ f.most) f.sent) (every_each (place_names rules nodes locks node) node.count f.queue)
 
-  -- an empty slot names nothing
-  empty_names : SlotNames empty_slot
+  -- a place not in use names nothing
+  empty_names : CarNames empty_slot
   unfolding empty_slot car_names
   empty_names = refl
 
@@ -92,17 +91,17 @@ module _ (rules nodes locks : ℕ) where
   head_names (Didv notice) arrival c = c
 
   -- the head taken off, each place in use still names only what is there
-  shifted-names : (queue : List Slot) (count : ℕ) → ((i : ℕ) → i < count → SlotNames (get_or queue i empty_slot))
-      → (i : ℕ) → i < count - 1 → SlotNames (get_or (shifted queue count) i empty_slot)
+  shifted-names : (queue : List Car) (count : ℕ) → ((i : ℕ) → i < count → CarNames (get_or queue i empty_slot))
+      → (i : ℕ) → i < count - 1 → CarNames (get_or (shifted queue count) i empty_slot)
   unfolding shifted
   shifted-names queue zero h i l = absurd (omega arith)
   shifted-names [] (suc zero) h i l = absurd (omega arith)
   shifted-names [] (suc (suc count)) h i l =
       let e : suc (suc count) - 1 ≡ suc count = omega arith in
-      rw e (place_parted SlotNames empty_slot [] (suc count) i (omega arith) empty_names empty_names)
-  shifted-names (slot ∷ slots) (suc count) h i l =
+      rw e (place_parted CarNames empty_slot [] (suc count) i (omega arith) empty_names empty_names)
+  shifted-names (car ∷ cars) (suc count) h i l =
       let e : suc count - 1 ≡ count = omega arith in
-      rw e (place_parted SlotNames empty_slot slots count i (omega arith) empty_names (h (suc i) (omega arith)))
+      rw e (place_parted CarNames empty_slot cars count i (omega arith) empty_names (h (suc i) (omega arith)))
 
   -- the zero node that takes the head off and sends what names only what is there is still so
   head_off_in_plan : (node : ZeroNode) (car : Car) → car_names rules nodes locks car ≡ true → ZeroInPlan node → ZeroInPlan (head_off node car)
@@ -118,13 +117,13 @@ module _ (rules nodes locks : ℕ) where
   sends_in_plan node (SendsHead head) r f = head_off_in_plan node head r f
 
   -- the arrival at the queue's end: the places before it are as they were
-  queue_longer : (queue : List Slot) (count : ℕ) (arrival : Car) → car_names rules nodes locks arrival ≡ true
-      → ((i : ℕ) → i < count → SlotNames (get_or queue i empty_slot))
-      → (i : ℕ) → i < count + 1 → SlotNames (get_or (set queue count (record { car = arrival })) i empty_slot)
+  queue_longer : (queue : List Car) (count : ℕ) (arrival : Car) → car_names rules nodes locks arrival ≡ true
+      → ((i : ℕ) → i < count → CarNames (get_or queue i empty_slot))
+      → (i : ℕ) → i < count + 1 → CarNames (get_or (set queue count arrival) i empty_slot)
   queue_longer queue count arrival c h i l =
-      ⊎_elim (λ e. subst (λ (k : ℕ). SlotNames (get_or (set queue count (record { car = arrival })) k empty_slot)) (sym e)
-      (place_stored SlotNames empty_slot queue count (record { car = arrival }) c empty_names))
-      (λ b. place_set SlotNames empty_slot queue count (record { car = arrival }) i c (h i b)) (eq-or-lt_of_le (omega arith))
+      ⊎_elim (λ e. subst (λ (k : ℕ). CarNames (get_or (set queue count arrival) k empty_slot)) (sym e)
+      (place_stored CarNames empty_slot queue count arrival c empty_names))
+      (λ b. place_set CarNames empty_slot queue count arrival i c (h i b)) (eq-or-lt_of_le (omega arith))
 
   -- the arrival appended, or not, it is still so
   arrives_in_plan : (node : ZeroNode) (arrival : Car) → car_names rules nodes locks arrival ≡ true → ZeroInPlan node → ZeroInPlan (arrives node arrival)

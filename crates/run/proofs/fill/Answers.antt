@@ -1,39 +1,38 @@
--- `fill` meets its contract. In its loop, what is written so far and what the run still says are together what it said from the start.
-use mathlib.Core.Path.{ap, ◌∙◌}
+-- A line that fits is written, and the run goes on; at a line that does not fit, and when all is said, nothing more is written.
+use Rattle.std.proofs.Common.{ap, refl, ◌∙◌}
+use Rattle.std.proofs.lemmas.Bool.{not-true, not-false}
 use Rattle.run.specs.Filling.{filling, filled_buffer}
-use Rattle.run.proofs.Fills.{full_over, full_line, fewer_lines, filling_none, room_enough, filling_line}
+use Rattle.run.proofs.Ready.{line_said, this_said}
+use Rattle.run.proofs.Fills.{fills_none, full_over, full_line, fills_line, fewer_lines}
 use Rattle.run.proofs.fill.Goals as goal
 
 pub loop-here-init : goal.loop-here-init
-loop-here-init c = filling_none _ _ _ _ c.onward-here.ensures.1
+loop-here-init c = fills_none _ _ _ _ _ refl c.onward-here.ensures.1
 
-pub overflow_sub-used : goal.overflow_sub-used
-overflow_sub-used c = c.loop-here.invariant.roomy
-
-pub shape_of-buffer-then-here : goal.shape_of-buffer-then-here
-shape_of-buffer-then-here c = c.loop-here.invariant.fills.long
-
-pub returns-then-here : goal.returns-then-here
-returns-then-here c =
-    let full = full_over _ _ _ _ _ _ _ c.loop-here.invariant.fills c.if-here.true in record { value = full.answer ∙ ap (filling _) c.onward-here.ensures.0; buffer_after = full.content ∙ ap (filled_buffer _) c.onward-here.ensures.0 }
-
-pub put-length-requires : goal.put-length-requires
-put-length-requires c = c.loop-here.invariant.fills.inside
-
-pub shape_of-buffer-then-length-eq0 : goal.shape_of-buffer-then-length-eq0
-shape_of-buffer-then-length-eq0 c = c.put-length.auto.buffer ∙ c.loop-here.invariant.fills.long
-
-pub returns-then-length-eq0 : goal.returns-then-length-eq0
-returns-then-length-eq0 c =
-    let full = full_line _ _ _ _ _ _ _ _ _ _ c.loop-here.invariant.fills c.if-here.false c.say-saying.ensures c.put-length.ensures.value c.if-length-eq0.true c.put-length.ensures.buffer_after in record { value = full.answer ∙ ap (filling _) c.onward-here.ensures.0; buffer_after = full.content ∙ ap (filled_buffer _) c.onward-here.ensures.0 }
-
-pub overflow_sub-room : goal.overflow_sub-room
-overflow_sub-room c = room_enough _ _ _ _ _ _ _ _ _ _ c.loop-here.invariant c.put-length.ensures.value
+pub unwrap-line-requires : goal.unwrap-line-requires
+unwrap-line-requires c =
+    let says = line_said c.args.ceiling _ _ _ _ c.loop-here.invariant.ready_now (not-true _ c.loop-here-test.true) c.say.ensures in
+    rw says.is
 
 pub loop-here-smaller : goal.loop-here-smaller
 loop-here-smaller c =
-    fewer_lines _ _ _ _ _ c.loop-here.invariant.fills.ready_now c.if-here.false c.say-saying.ensures c.onward-here-in-loop-here.ensures.0
+    let says = line_said c.args.ceiling _ _ _ _ c.loop-here.invariant.ready_now (not-true _ c.loop-here-test.true) c.say.ensures in
+    fewer_lines _ _ _ _ _ says.goes c.onward-here-in-loop-here.ensures.0
 
 pub loop-here-preserved : goal.loop-here-preserved
 loop-here-preserved c =
-    filling_line _ _ _ _ _ _ _ _ _ _ _ _ c.loop-here.invariant c.if-here.false c.say-saying.ensures c.put-length.ensures.value c.if-length-eq0.false c.put-length.ensures.buffer_after c.onward-here-in-loop-here.ensures.0 c.onward-here-in-loop-here.ensures.1
+    let says = line_said c.args.ceiling _ _ _ _ c.loop-here.invariant.ready_now (not-true _ c.loop-here-test.true) c.say.ensures in
+    fills_line _ _ _ _ _ _ _ _ _ _ _ c.loop-here.invariant (this_said says c.unwrap-line.ensures) c.in-Some.ensures.value c.in-Some.ensures.buffer_after
+    c.onward-here-in-loop-here.ensures.0 c.onward-here-in-loop-here.ensures.1
+
+pub returns-after-loop-here : goal.returns-after-loop-here
+returns-after-loop-here c =
+    let full = full_over _ _ _ _ _ _ _ c.loop-here.invariant (not-false _ c.loop-here-test.false) in
+    record { value = full.answer ∙ ap (filling _) c.onward-here.ensures.0; buffer_after = full.content ∙ ap (filled_buffer _) c.onward-here.ensures.0 }
+
+pub returns-in-None : goal.returns-in-None
+returns-in-None c =
+    let says = line_said c.args.ceiling _ _ _ _ c.loop-here.invariant.ready_now (not-true _ c.loop-here-test.true) c.say.ensures in
+    let full =
+    full_line _ _ _ _ _ _ _ _ _ c.loop-here.invariant (this_said says c.unwrap-line.ensures) c.in-None.ensures.value c.in-None.ensures.buffer_after in
+    record { value = full.answer ∙ ap (filling _) c.onward-here.ensures.0; buffer_after = full.content ∙ ap (filled_buffer _) c.onward-here.ensures.0 }

@@ -7,6 +7,6 @@ use Rattle.cases.proofs.comparing.file_agrees.Goals as goal
 pub slice_bounds-buffer-end : goal.slice_bounds-buffer-end
 slice_bounds-buffer-end c = used_within _ _ _ _ c.fill-filled.ensures.value c.fill-filled.ensures.buffer_after
 
-pub slice_bounds-same-end : goal.slice_bounds-same-end
-slice_bounds-same-end c =
+pub slice_bounds-eq-end : goal.slice_bounds-eq-end
+slice_bounds-eq-end c =
     sym (length-take-le _ _ (used_within _ _ _ _ c.fill-filled.ensures.value c.fill-filled.ensures.buffer_after))

@@ -1,13 +1,14 @@
--- `morning::entries::entry_at` meets its contract. On each way to a return, the tests and calls on the way choose the case of the definition.
-use borrow.Author.Tests.{le-ltb, lt-ltb}
-use Rattle.morning.specs.Order.{entry_at}
+-- `morning::entries::entry_at` meets its contract: what `get` gives, or else what no row says.
+use mathlib.Core.Path.{ap, ◌∙◌}
+use native.Mathlib.Omega.{arith}
+use Rattle.std.specs.Prelude.{Option, unwrap_or}
+use Rattle.verdict.specs.Verdicts.{no_notes}
+use Rattle.morning.specs.declared.Entry.{Entry}
+use Rattle.morning.specs.Order.{no_entry, entry_at}
 use Rattle.morning.proofs.entries.entry_at.Goals as goal
 
-pub returns-then-place-rows : goal.returns-then-place-rows
-unfolding entry_at
-returns-then-place-rows c =
-    simp (c.number_at-then-place-rows-6.ensures, c.number_at-then-place-rows-5.ensures, c.number_at-then-place-rows-4.ensures, c.number_at-then-place-rows-3.ensures, c.number_at-then-place-rows-2.ensures, c.number_at-then-place-rows.ensures, c.number_at.ensures, lt-ltb _ _ c.if-place-rows.true)
-
 pub returns : goal.returns
-unfolding entry_at
-returns c = simp (c.no_entry.ensures, le-ltb _ _ c.if-place-rows.false)
+unfolding no_notes no_entry entry_at
+returns c =
+    c.unwrap_or.ensures ∙ ap (λ (o : Option Entry). unwrap_or o no_entry) c.copied.ensures
+    ∙ c.get.ensures.lookup.4 (omega arith) no_entry

@@ -1,11 +1,11 @@
--- `morning::entries::first_entry` meets its contract. On each way to a return, the tests and calls on the way choose the case of the definition.
-use Rattle.morning.specs.Order.{first_entry}
-use Rattle.morning.proofs.Places.{places_room}
+-- `morning::entries::first_entry` meets its contract: it is sought in the rows of the listed schedules.
+use mathlib.Core.Path.{◌∙◌}
+use native.Mathlib.Omega.{arith}
+use Rattle.verdict.specs.declared.Verdict.TheVariants.{Incomplete}
+use Rattle.morning.specs.Order.{places_in, first_entry}
+use Rattle.morning.proofs.Places.{seek_cut}
 use Rattle.morning.proofs.entries.first_entry.Goals as goal
 
-pub seek-requires : goal.seek-requires
-seek-requires c = places_room _ _ c.places_in.ensures
-
 pub returns : goal.returns
-unfolding first_entry
-returns c = simp (c.seek.ensures, c.places_in.ensures)
+unfolding places_in first_entry
+returns c = c.seek.ensures ∙ seek_cut c.args.rows.now (places_in c.args.rows.now c.args.listed) Incomplete 0 c.listed_rows.ensures (omega arith) (omega arith)

@@ -1,19 +1,28 @@
--- `morning::entries::next_entry` meets its contract. On each way to a return, the tests and calls on the way choose the case of the definition.
-use borrow.Author.Tests.{lt-ltb, le-ltb}
-use Rattle.morning.specs.Order.{next_entry}
-use Rattle.morning.proofs.Places.{places_room}
+-- `morning::entries::next_entry` meets its contract: it is sought in the rows of the listed schedules.
+use Prim.Native.Nat.{ℕ, ◌+◌}
+use mathlib.Core.Path.{◌≡◌, ap, ◌∙◌}
+use mathlib.Core.Bool.{cond}
+use mathlib.Core.List.{List}
+use native.Mathlib.Omega.{arith}
+use lib.Dec.{ltb}
+use lib.ListN.{length, length-take}
+use borrow.Author.Tests.{ltb-true, ltb-false}
+use Rattle.lists.proofs.Tests.{by_value}
+use Rattle.morning.specs.declared.Entry.{Entry}
+use Rattle.morning.specs.Order.{places_in, seek, next_entry}
+use Rattle.morning.proofs.Places.{seek_cut}
 use Rattle.morning.proofs.entries.next_entry.Goals as goal
 
-pub seek-requires : goal.seek-requires
-seek-requires c = places_room _ _ c.places_in-places.ensures
-
-pub returns-then-cursor-places : goal.returns-then-cursor-places
-unfolding next_entry
-returns-then-cursor-places c = simp (c.seek.ensures, ← c.places_in-places.ensures, lt-ltb _ _ c.if-cursor-places.true)
-
-pub seek-requires-2 : goal.seek-requires-2
-seek-requires-2 c = places_room _ _ c.places_in-places.ensures
-
 pub returns : goal.returns
-unfolding next_entry
-returns c = simp (c.seek-2.ensures, ← c.places_in-places.ensures, le-ltb _ _ c.if-cursor-places.false)
+unfolding places_in next_entry
+returns c =
+    let rows : List Entry = c.args.rows.now in
+    let places : ℕ = places_in rows c.args.listed in
+    let cursor = c.args.cursor in
+    let long : length c.listed_rows-rows.result.now ≡ places = ap length c.listed_rows-rows.ensures ∙ length-take places rows ∙ omega arith in
+    c.seek.ensures ∙ seek_cut rows places cursor.verdict c.min.result c.listed_rows-rows.ensures (omega arith) (omega arith)
+    ∙ by_value
+    (λ b. seek rows places cursor.verdict c.min.result ≡ cond b (seek rows places cursor.verdict (cursor.place + 1)) (seek rows places cursor.verdict places))
+    (ltb cursor.place places)
+    (λ t. ap (seek rows places cursor.verdict) (omega (arith, ltb-true cursor.place places t)))
+    (λ t. ap (seek rows places cursor.verdict) (omega (arith, ltb-false cursor.place places t)))

@@ -1,17 +1,14 @@
--- `morning::entries::seek` meets its contract. In the loop what is to be sought from the verdict at hand on is what was to be sought.
-use mathlib.Core.Path.{refl}
-use Rattle.morning.proofs.Places.{seeking-at}
+-- `morning::entries::seek` meets its contract: the verdicts from one on are a part of the array.
+use mathlib.Core.Path.{ap, ◌∙◌}
+use mathlib.Core.List.{List}
+use lib.ListN.{length}
+use Rattle.verdict.specs.declared.Verdict.{Verdict}
+use Rattle.morning.specs.Order.{worst_first, seeking, seek}
+use Rattle.morning.proofs.Places.{part_from}
 use Rattle.morning.proofs.entries.seek.Goals as goal
 
-pub loop-verdict-init : goal.loop-verdict-init
-loop-verdict-init c = seeking-at _ _ _ _ _ _ c.next_place-place.ensures refl
-
-pub returns-then-place-places : goal.returns-then-place-places
-returns-then-place-places c = c.loop-verdict.invariant.found c.loop-verdict-test.true c.if-place-places.true
-
-pub loop-verdict-preserved : goal.loop-verdict-preserved
-loop-verdict-preserved c =
-    seeking-at _ _ _ _ _ _ c.next_place-place-in-loop-verdict.ensures (c.loop-verdict.invariant.on c.loop-verdict-test.true c.if-place-places.false)
-
 pub returns : goal.returns
-returns c = c.loop-verdict.invariant.none c.loop-verdict-test.false
+unfolding worst_first seek
+returns c =
+    let a = c.args in
+    c.seeking.ensures ∙ ap (λ (verdicts : List Verdict). seeking a.rows.now (length a.rows.now) verdicts a.from) (part_from a.verdict)

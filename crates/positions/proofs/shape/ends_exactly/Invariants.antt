@@ -1,9 +1,7 @@
 -- `ends_exactly` gives `ends_at`: in the loop, what is still to come ends with the bytes from the place on as all of them with all bytes.
-use Rattle.positions.proofs.Ending.{Ending}
+use Rattle.std.proofs.Common.{◌≡◌, false, drop}
+use Rattle.positions.specs.Shape.{ends_at}
 use Rattle.positions.proofs.shape.ends_exactly.Given as goal
 
-abbrev pub invariant-loop-room : goal.invariant-loop-room
-invariant-loop-room l = Ending l.bytes l.count l.room l.coming l.opening l.place
-
-abbrev pub decreases-loop-room : goal.decreases-loop-room
-decreases-loop-room l = l.room
+abbrev pub invariant-loop-byte : goal.invariant-loop-byte
+invariant-loop-byte l = ends_at l.opening l.coming (drop l.byte-index l.bytes) ≡ ends_at false l.count l.bytes

@@ -1,23 +1,15 @@
--- The junctions that pass: in the loop every junction met has passed, and one that does not ends it.
-use mathlib.Core.Path.{sym, ap, ◌∙◌}
-use borrow.Author.Rules.{rules}
-use Rattle.lists.proofs.Laws.{every_none, every_more, every-not}
-use Rattle.lists.specs.Loops.{every}
+-- The junctions that pass: what `all` answers of the first junctions.
+use Rattle.std.proofs.Common.{rules, tests, take, ◌∙◌}
+use Rattle.std.proofs.lemmas.Iterator.{YieldsList-from_slice}
+use Rattle.std.proofs.lemmas.Iterator.Search.{all_from_yields_List}
+use Rattle.lists.proofs.Firsts.{all_of_firsts}
+use Rattle.junction.specs.Sound.{junction_sound}
 use Rattle.ring.specs.State.{rest_junction}
-use Rattle.ring.specs.Sound.{junction_passes}
 use Rattle.ring.proofs.State.junctions_pass.Goals as goal
 
-pub loop-i-init : goal.loop-i-init
-loop-i-init c = record { below = search rules; passed = every_none _ }
-
-pub loop-i-preserved : goal.loop-i-preserved
-unfolding junction_passes rest_junction
-loop-i-preserved c =
-    record { below = search rules; passed = simp (every_more, c.loop-i.invariant.passed, ← c.sound.ensures, c.if-sound.true) }
-
-pub returns-else-sound : goal.returns-else-sound
-unfolding junction_passes rest_junction
-returns-else-sound c = sym (every-not _ _ c.loop-i.i c.loop-i-test.true (simp (← c.sound.ensures, c.if-sound.false)))
-
 pub returns : goal.returns
-returns c = sym c.loop-i.invariant.passed ∙ ap (every (junction_passes c.args.self c.args.nodes)) (search rules)
+returns c =
+    let passes = junction_sound c.args.limits.rules c.args.limits.nodes c.args.limits.locks in
+    let places = take c.args.count c.args.self.junctions in
+    all_from_yields_List passes _ _ _ c.all.ensures.ran (YieldsList-from_slice places cc) (λ x b q k. search (rules, tests))
+    ∙ all_of_firsts passes rest_junction c.args.self.junctions c.args.count (search rules)

@@ -1,23 +1,15 @@
--- The nodes that pass: in the loop every node met has passed, and one that does not ends it.
-use mathlib.Core.Path.{sym, ap, ◌∙◌}
-use borrow.Author.Rules.{rules}
-use Rattle.lists.proofs.Laws.{every_none, every_more, every-not}
-use Rattle.lists.specs.Loops.{every}
+-- The nodes that pass: what `all` answers of the first nodes.
+use Rattle.std.proofs.Common.{rules, tests, take, ◌∙◌}
+use Rattle.std.proofs.lemmas.Iterator.{YieldsList-from_slice}
+use Rattle.std.proofs.lemmas.Iterator.Search.{all_from_yields_List}
+use Rattle.lists.proofs.Firsts.{all_of_firsts}
+use Rattle.usernode.specs.Sound.{node_sound}
 use Rattle.ring.specs.State.{rest_node}
-use Rattle.ring.specs.Sound.{node_passes}
 use Rattle.ring.proofs.State.nodes_pass.Goals as goal
 
-pub loop-i-init : goal.loop-i-init
-loop-i-init c = record { below = search rules; passed = every_none _ }
-
-pub loop-i-preserved : goal.loop-i-preserved
-unfolding node_passes rest_node
-loop-i-preserved c =
-    record { below = search rules; passed = simp (every_more, c.loop-i.invariant.passed, ← c.sound.ensures, c.if-sound.true) }
-
-pub returns-else-sound : goal.returns-else-sound
-unfolding node_passes rest_node
-returns-else-sound c = sym (every-not _ _ c.loop-i.i c.loop-i-test.true (simp (← c.sound.ensures, c.if-sound.false)))
-
 pub returns : goal.returns
-returns c = sym c.loop-i.invariant.passed ∙ ap (every (node_passes c.args.self c.args.nodes)) (search rules)
+returns c =
+    let passes = node_sound c.args.limits.rules c.args.limits.nodes c.args.limits.locks in
+    let places = take c.args.limits.nodes c.args.self.nodes in
+    all_from_yields_List passes _ _ _ c.all.ensures.ran (YieldsList-from_slice places cc) (λ x b q k. search (rules, tests))
+    ∙ all_of_firsts passes rest_node c.args.self.nodes c.args.limits.nodes (search rules)

@@ -1,33 +1,20 @@
 -- `sound` tests 13: the plan by its survey, then the zero node, the nodes and the junctions.
-use mathlib.Core.Path.{sym, ap, ◌∙◌}
-use native.Mathlib.Omega.{arith}
-use Rattle.positions.specs.declared.Survey.{Survey}
-use Rattle.plan.specs.Plan.{plan_survey}
-use Rattle.plan.proofs.Laws.{nodes_most, junctions_most}
-use Rattle.ring.proofs.Laws.{sound_right, sound-wrong}
+use Rattle.std.proofs.Common.{◌≡◌, true, ◌&&◌, sym, ◌∙◌}
+use Rattle.lists.specs.Loops.{every}
+use Rattle.ring.specs.Sound.{zero_passes, node_passes, junction_passes}
+use Rattle.ring.proofs.Laws.{sound_surveyed}
 use Rattle.ring.proofs.State.sound.Goals as goal
+use Rattle.ring.proofs.State.sound.Goals.{then-sound, else-sound}
 
--- src/soundness.rt:80:36
-pub overflow_cast-survey : goal.overflow_cast-survey
-unfolding plan_survey
-overflow_cast-survey c = omega (arith, ap (λ (s : Survey). s.nodes) c.survey-survey.ensures, nodes_most c.args.self.plan)
-
--- src/soundness.rt:80:56
-pub overflow_cast-survey-then-is_right : goal.overflow_cast-survey-then-is_right
-unfolding plan_survey
-overflow_cast-survey-then-is_right c = omega (arith, ap (λ (s : Survey). s.junctions) c.survey-survey.ensures, junctions_most c.args.self.plan)
-
--- src/soundness.rt:80:13
-pub parts_pass-requires : goal.parts_pass-requires
-unfolding plan_survey
-parts_pass-requires c =
-    let plan = c.args.self.plan in
-    (omega (arith, ap (λ (s : Survey). s.nodes) c.survey-survey.ensures, nodes_most plan), omega (arith, ap (λ (s : Survey). s.junctions) c.survey-survey.ensures, junctions_most plan))
-
--- src/soundness.rt:80:13
-pub returns-then-is_right : goal.returns-then-is_right
-returns-then-is_right c = sound_right _ _ _ c.survey-survey.ensures (sym c.is_right.ensures ∙ c.if-is_right.true) c.parts_pass.ensures
-
--- src/soundness.rt:74:5
-pub returns : goal.returns
-returns c = sound-wrong _ _ c.survey-survey.ensures (sym c.is_right.ensures ∙ c.if-is_right.false)
+pub returns-then-nodes_pass : goal.returns-then-nodes_pass
+unfolding zero_passes node_passes junction_passes
+returns-then-nodes_pass c =
+    let survey = c.in-Some.survey in
+    elim c.if-sound.branch [
+      | then-sound w ↦
+          let zeroth : true ≡ zero_passes c.args.self survey.nodes = sym w.if-sound.true ∙ c.sound.ensures in
+          let nodes : true ≡ every (node_passes c.args.self survey.nodes) survey.nodes = sym (sym w.value-is ∙ c.if-nodes_pass.true) ∙ w.nodes_pass.ensures in
+          c.junctions_pass.ensures ∙ (λ i. zeroth i && nodes i && every (junction_passes c.args.self survey.nodes) survey.junctions)
+          ∙ sound_surveyed c.args.self survey (sym c.survey.ensures ∙ c.in-Some.is)
+      | else-sound w ↦ cc
+    ]

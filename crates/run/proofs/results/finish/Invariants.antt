@@ -1,4 +1,4 @@
--- `results::finish` meets its contract. In its loop each line said leaves the end as it was.
+-- The run is ready, and each line said leaves the end as it was. The measure is the lines that it still says.
 use mathlib.Core.Path.{◌≡◌}
 use mathlib.Core.Bool.{true}
 use lib.ListN.{length}

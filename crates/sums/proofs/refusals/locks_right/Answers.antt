@@ -1,12 +1,13 @@
--- `locks_right` gives `locks_right`: whole rows, then the locks of each run.
-use borrow.Author.Tests.{eq-eqb, ne_eqb}
-use Rattle.sums.specs.Sheet.{locks_right}
+-- The locks of each run are tested where the rows are whole.
+use Rattle.std.proofs.Common.{refl, rules}
+use borrow.Author.Tests.{eq-eqb}
+use Rattle.lists.proofs.Ranges.{every_from_all}
+use Rattle.sums.specs.Sheet.{run_count, locks_alike, locks_right}
 use Rattle.sums.proofs.refusals.locks_right.Goals as goal
 
 pub returns-then-numbers-eq0 : goal.returns-then-numbers-eq0
-unfolding locks_right
-returns-then-numbers-eq0 c = simp (c.all_alike.ensures, eq-eqb _ _ c.if-numbers-eq0.true)
-
-pub returns : goal.returns
-unfolding locks_right
-returns c = simp (ne_eqb _ _ c.if-numbers-eq0.false)
+unfolding locks_right run_count
+returns-then-numbers-eq0 c =
+    let numbers = c.args.numbers.now in
+    let each = every_from_all (locks_alike numbers) (run_count numbers) _ _ _ c.all.ensures.ran refl (λ x b q k. search rules) in
+    simp (eq-eqb _ _ c.if-numbers-eq0.true, each)

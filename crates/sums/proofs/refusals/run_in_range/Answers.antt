@@ -1,20 +1,17 @@
--- `run_in_range` gives `run_in_range`: the steps first, then the locks.
-use native.Mathlib.Omega.{arith}
+-- The locks are tested where the steps are in range.
+use Rattle.std.proofs.Common.{refl, rules}
 use borrow.Author.Tests.{le-leb, lt-leb}
-use borrow.Author.Rules.{rules}
-use Rattle.sums.specs.Sheet.{run_in_range, sheet_locks}
+use Rattle.lists.proofs.Ranges.{every_from_all}
+use Rattle.sums.specs.Sheet.{lock_in_range, run_in_range}
 use Rattle.sums.proofs.refusals.run_in_range.Goals as goal
 
-pub returns-then-steps-gt1000000 : goal.returns-then-steps-gt1000000
+pub returns-then-steps-le1000000 : goal.returns-then-steps-le1000000
 unfolding run_in_range
-returns-then-steps-gt1000000 c = simp (← c.number_at-steps.ensures, lt-leb _ _ c.if-steps-gt1000000.true)
+returns-then-steps-le1000000 c =
+    let numbers = c.args.numbers.now in
+    let each = every_from_all (lock_in_range numbers c.args.run) c.sheet_locks-locks.result _ _ _ c.all.ensures.ran refl (λ x b q k. search rules) in
+    simp (← c.number_at-steps.ensures, ← c.sheet_locks-locks.ensures, le-leb _ _ c.if-steps-le1000000.true, each)
 
-pub locks_in_range-requires : goal.locks_in_range-requires
-unfolding sheet_locks
-locks_in_range-requires c =
-    (search rules, omega (arith, c.number_at-locks.ensures, c.requires.1), omega (arith, c.number_at-steps.ensures, c.if-steps-gt1000000.false))
-
-pub returns : goal.returns
-unfolding run_in_range sheet_locks
-returns c =
-    simp (c.locks_in_range.ensures, c.number_at-locks.ensures, ← c.number_at-steps.ensures, le-leb _ _ c.if-steps-gt1000000.false)
+pub returns-else-steps-le1000000 : goal.returns-else-steps-le1000000
+unfolding run_in_range
+returns-else-steps-le1000000 c = simp (← c.number_at-steps.ensures, lt-leb _ _ c.if-steps-le1000000.false)

@@ -1,30 +1,22 @@
--- `over_runs` gives the sum over the runs: in the loop the sum of the rows passed, each number at most 64,000,000.
-use mathlib.Core.Path.{◌≡◌, ap, ◌∙◌, sym}
-use native.Mathlib.Omega.{arith}
-use borrow.Author.Rules.{rules}
+-- The sum over the numbers of the runs; each is at most 64,000,000.
+use Rattle.std.proofs.Common.{◌<◌, ◌^◌, rules, arith}
 use Rattle.lists.specs.Loops.{total}
-use Rattle.lists.proofs.Laws.{total_none, total-more, total_at_most}
-use Rattle.sums.specs.Sheet.{number_at}
+use Rattle.lists.proofs.Laws.{total_at_most}
+use Rattle.lists.proofs.Ranges.{total_fits, total_from_sum}
+use Rattle.sums.specs.Sheet.{number_at, run_count, over_runs}
 use Rattle.sums.proofs.rows.over_runs.Goals as goal
 
-pub loop-run-init : goal.loop-run-init
-loop-run-init c = (search rules, sym (total_none _))
-
-pub overflow_add-sum : goal.overflow_add-sum
-overflow_add-sum c =
-    let so = c.loop-run in
+pub sum-requires-clause-fits : goal.sum-requires-clause-fits
+unfolding run_count
+sum-requires-clause-fits c =
     let f = number_at c.args.numbers.now c.args.place in
-    let below = c.loop-run-test.true in
-    omega (arith, so.invariant.1, c.number_at-sum.ensures, c.requires.2 so.run below, total_at_most f 64000000 so.run (λ run l. c.requires.2 run (omega arith)))
-
-pub loop-run-preserved : goal.loop-run-preserved
-loop-run-preserved c =
-    let so = c.loop-run in
-    let f = number_at c.args.numbers.now c.args.place in
-    (search rules, omega (arith, so.invariant.1, c.number_at-sum.ensures, total-more f so.run))
+    let runs = run_count c.args.numbers.now in
+    let fits : total f runs < 2 ^ 64 = omega (arith, total_at_most f 64000000 runs c.requires.2) in
+    total_fits c.map.result f runs c.map.ensures.source c.map.ensures.closure (2 ^ 64) fits (λ x r q k. search rules)
 
 pub returns : goal.returns
+unfolding over_runs run_count
 returns c =
-    let a = c.args in
-    let done : c.loop-run.run ≡ a.runs = omega arith in
-    c.loop-run.invariant.1 ∙ ap (total (number_at a.numbers.now a.place)) done
+    let numbers = c.args.numbers.now in
+    total_from_sum c.map.result (number_at numbers c.args.place) (run_count numbers) c.map.ensures.source c.map.ensures.closure _ c.sum.ensures.ran
+    (λ x r q k. search rules)

@@ -1,42 +1,22 @@
--- `sheet_of` gives `sheet_of_first`; that the runs are in range bounds every sum.
-use native.Mathlib.Omega.{arith}
-use borrow.Author.Rules.{rules}
-use Rattle.sums.proofs.Made.{steps_sum_small, busy-sum_small, sheet_made}
-use Rattle.sums.proofs.Ranges.{steps_small, busy_small, grants_small, failed_small, first_few}
+-- The rows of the locks passed are the sheet's, and those behind them are empty.
+use Rattle.std.proofs.Common.{◌≡◌, ap, ◌∙◌, rules, arith}
+use Rattle.sums.specs.Sheet.{sheet_locks, lock_row, rows_of, sheet_of}
+use Rattle.sums.proofs.Ranges.{steps_small}
+use Rattle.sums.proofs.Laws.{rows_none, rows-more}
 use Rattle.sums.proofs.rows.sheet_of.Goals as goal
 
 pub over_runs-steps-requires : goal.over_runs-steps-requires
-over_runs-steps-requires c =
-    (omega (arith, c.requires.0), search rules, λ run l. steps_small c.args.numbers.now c.requires.2 run (omega (arith, l)))
+over_runs-steps-requires c = (c.requires.0, search rules, steps_small c.args.numbers.now c.requires)
 
-pub column_of-busy-requires : goal.column_of-busy-requires
-column_of-busy-requires c =
-    let locks = c.locks_of-locks.ensures in
-    let a = c.args in
-    (c.requires.0, omega (arith, locks, c.requires.1), search rules, λ lock run l r. busy_small a.numbers.now c.requires.2 lock run (omega (arith, locks, first_few a.numbers.now a.runs)) r)
+pub loop-lock-init : goal.loop-lock-init
+loop-lock-init c = rows_none (lock_row c.args.numbers.now)
 
-pub column_of-grants-requires : goal.column_of-grants-requires
-column_of-grants-requires c =
-    let locks = c.locks_of-locks.ensures in
-    let a = c.args in
-    (c.requires.0, omega (arith, locks, c.requires.1), search rules, λ lock run l r. grants_small a.numbers.now c.requires.2 lock run (omega (arith, locks, first_few a.numbers.now a.runs)) r)
-
-pub column_of-failed-requires : goal.column_of-failed-requires
-column_of-failed-requires c =
-    let locks = c.locks_of-locks.ensures in
-    let a = c.args in
-    (c.requires.0, omega (arith, locks, c.requires.1), search rules, λ lock run l r. failed_small a.numbers.now c.requires.2 lock run (omega (arith, locks, first_few a.numbers.now a.runs)) r)
-
-pub shares_of-share-requires : goal.shares_of-share-requires
-shares_of-share-requires c =
-    let locks = c.locks_of-locks.ensures in
-    let a = c.args in (
-      omega (arith, locks, c.requires.1),
-      omega (arith, c.over_runs-steps.ensures, steps_sum_small a.numbers.now a.runs c.requires),
-      busy-sum_small a.numbers.now a.runs c.requires locks c.column_of-busy.ensures,
-    )
+pub loop-lock-preserved : goal.loop-lock-preserved
+loop-lock-preserved c = rows-more (lock_row c.args.numbers.now) c.loop-lock.lock c.loop-lock.invariant c.row_of.ensures
 
 pub returns : goal.returns
+unfolding sheet_of
 returns c =
-    let a = c.args in
-    sheet_made a.numbers.now a.runs c.requires c.locks_of-locks.ensures c.column_of-busy.ensures c.over_runs-steps.ensures c.column_of-grants.ensures c.column_of-failed.ensures c.shares_of-share.ensures
+    let numbers = c.args.numbers.now in
+    let done : c.loop-lock.lock ≡ sheet_locks numbers = omega arith in
+    λ i. record { locks = c.sheet_locks-locks.ensures i; rows = (c.loop-lock.invariant ∙ ap (rows_of (lock_row numbers)) done) i }

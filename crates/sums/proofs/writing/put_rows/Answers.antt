@@ -1,47 +1,28 @@
--- `put_rows` meets its contract: in the loop the rows of the locks passed stand at the buffer's start.
-use Prim.Native.Nat.{ℕ, min}
-use mathlib.Core.List.{◌++◌}
-use mathlib.Core.Path.{◌≡◌, ap, ◌∙◌}
-use native.Mathlib.Omega.{arith}
-use lib.ListN.{length, drop}
-use borrow.Author.Rules.{rules}
-use Rattle.sums.specs.Text.{sheet_row, sheet_rows}
-use Rattle.sums.proofs.Written.{sheet-row_most, written_none, written_row}
+-- The rows of the locks passed stand at the buffer's start.
+use Rattle.std.proofs.Common.{ℕ, ◌<◌, ◌∙◌, ◌++◌, List, sym, ap, length, take, drop, length-take, arith}
+use Rattle.std.proofs.lemmas.List.{get_or-take}
+use Rattle.lines.specs.Line.{buffer_after}
+use Rattle.sums.specs.Sheet.{empty_row}
+use Rattle.sums.proofs.Written.{sheet-row_most, sheet-row_read, written_none, written_row}
 use Rattle.sums.proofs.writing.put_rows.Goals as goal
 
 pub loop-lock-init : goal.loop-lock-init
-loop-lock-init c = record { below = search rules; few = omega (arith, c.places_used-locks.ensures); so = written_none _ _ }
-
-pub put_row-used-requires : goal.put_row-used-requires
-put_row-used-requires c =
-    let so = c.loop-lock.invariant in
-    omega (arith, so.so.most, so.so.long)
+loop-lock-init c = written_none _ _
 
 pub overflow_add-used : goal.overflow_add-used
-unfolding sheet_row
 overflow_add-used c =
-    let at_place = c.loop-lock in
-    omega (arith, c.put_row-used.ensures.value, sheet-row_most c.args.sheet at_place.lock, at_place.invariant.so.most)
+    let sheet = c.args.sheet in
+    let lock = c.loop-lock.lock in
+    let below : lock < c.min-locks.result = omega (arith, length-take c.min-locks.result sheet.rows) in
+    let read = sheet-row_read sheet lock (get_or-take c.min-locks.result sheet.rows lock empty_row below) in
+    omega (arith, ap length read, sheet-row_most sheet lock)
 
 pub loop-lock-preserved : goal.loop-lock-preserved
-unfolding sheet_row
 loop-lock-preserved c =
-    let at_place = c.loop-lock in
-    record {
-      below = search rules;
-      few = search rules;
-      so = written_row _ _ _ _ _ _ _ at_place.invariant.so (omega (arith, at_place.invariant.so.most, at_place.invariant.so.long)) c.put_row-used.ensures.value c.put_row-used.ensures.buffer_after (c.put_row-used.auto.buffer ∙ at_place.invariant.so.long);
-    }
-
-pub shape_of-buffer : goal.shape_of-buffer
-shape_of-buffer c = c.loop-lock.invariant.so.long
-
-pub returns : goal.returns
-returns c =
-    let a = c.args in
-    let done : c.loop-lock.lock ≡ min a.sheet.locks 64 = omega (arith, c.places_used-locks.ensures) in
-    let so = c.loop-lock.invariant.so in
-    record {
-      value = so.count ∙ ap (λ (n : ℕ). length (sheet_rows a.sheet n)) done;
-      buffer_after = so.text ∙ ap (λ (n : ℕ). sheet_rows a.sheet n ++ drop (length (sheet_rows a.sheet n)) a.buffer.now) done;
-    }
+    let sheet = c.args.sheet in
+    let so = c.loop-lock in
+    let put = c.put_row-used in
+    let below : so.lock < c.min-locks.result = omega (arith, length-take c.min-locks.result sheet.rows) in
+    let read = sheet-row_read sheet so.lock (get_or-take c.min-locks.result sheet.rows so.lock empty_row below) in
+    written_row sheet c.args.buffer.now so.lock so.used so.buffer put.new.buffer put.result so.invariant (omega arith) (put.ensures.value ∙ ap length (sym read))
+    (put.ensures.buffer_after ∙ ap (λ (text : List ℕ). take so.used so.buffer ++ buffer_after (drop so.used so.buffer) text) (sym read)) (omega arith)

@@ -1,12 +1,9 @@
--- `write_sheet` gives `sheet_writing` and `buffer_after_sheet`: no room, the rows, or the line of a refusal, which fits.
-use Prim.Native.Nat.{ℕ}
-use mathlib.Core.List.{List, ◌++◌}
-use mathlib.Core.Path.{ap, ◌∙◌, sym}
-use lib.ListN.{length, drop}
+-- There is no room, or the rows are written, or the line of a refusal, which fits.
+use Rattle.std.proofs.Common.{◌∙◌}
 use borrow.Author.Tests.{lt-leb}
 use Rattle.lines.specs.Line.{written_told, written_number, written_length}
-use Rattle.sums.specs.Text.{sheet_writing, buffer_after_sheet}
-use Rattle.sums.proofs.Written.{text_made, text-refused, sheet_told_lem, sheet_put, refusal_told, refusal_put}
+use Rattle.sums.specs.Text.{sheet_text, sheet_writing, buffer_after_sheet}
+use Rattle.sums.proofs.Written.{sheet_told_lem, sheet_put, refusal_told, refusal_put}
 use Rattle.sums.proofs.writing.write_sheet.Goals as goal
 
 pub returns-then-buffer-lt-SHEET_ROOM : goal.returns-then-buffer-lt-SHEET_ROOM
@@ -17,24 +14,25 @@ returns-then-buffer-lt-SHEET_ROOM c =
       buffer_after = simp (lt-leb _ _ c.if-buffer-lt-SHEET_ROOM.true);
     }
 
-pub returns-then-number-eq0 : goal.returns-then-number-eq0
-unfolding written_told written_number written_length
-returns-then-number-eq0 c =
+pub returns-in-Ok : goal.returns-in-Ok
+unfolding written_told written_number written_length sheet_text
+returns-in-Ok c =
+    let buffer = c.args.buffer.now in
     let room = c.if-buffer-lt-SHEET_ROOM.false in
-    let a = c.args in
-    let text = text_made a.made c.sheet_number-number.ensures c.if-number-eq0.true in
+    let e = c.in-Ok.is in
     record {
-      result_value = ap (λ (n : ℕ). record { number = 0; length = n }) (c.put_rows.ensures.value ∙ ap length (sym text)) ∙ sym (sheet_told_lem a.buffer.now a.made room);
-      buffer_after = c.put_rows.ensures.buffer_after ∙ ap (λ (t : List ℕ). t ++ drop (length t) a.buffer.now) (sym text) ∙ sym (sheet_put a.buffer.now a.made room);
+      result_value = rw (sheet_told_lem buffer c.args.made room, e, c.put_rows.ensures.value);
+      buffer_after = rw (sheet_put buffer c.args.made room, e) c.put_rows.ensures.buffer_after;
     }
 
-pub returns : goal.returns
-returns c =
+pub returns-in-Err : goal.returns-in-Err
+unfolding sheet_text
+returns-in-Err c =
+    let buffer = c.args.buffer.now in
     let room = c.if-buffer-lt-SHEET_ROOM.false in
-    let a = c.args in
-    let number = c.sheet_number-number.result in
-    let text = text-refused a.made c.sheet_number-number.ensures c.if-number-eq0.false in
+    let e = c.in-Err.is in
+    let number = c.from.result in
     record {
-      result_value = c.write_line.ensures.result_value ∙ refusal_told a.buffer.now number room ∙ ap (λ (t : List ℕ). record { number = 0; length = length t }) (sym text) ∙ sym (sheet_told_lem a.buffer.now a.made room);
-      buffer_after = c.write_line.ensures.buffer_after ∙ refusal_put a.buffer.now number room ∙ ap (λ (t : List ℕ). t ++ drop (length t) a.buffer.now) (sym text) ∙ sym (sheet_put a.buffer.now a.made room);
+      result_value = rw (sheet_told_lem buffer c.args.made room, e, ← (c.from.ensures ∙ c.number.ensures)) (c.write_line.ensures.result_value ∙ refusal_told buffer number room);
+      buffer_after = rw (sheet_put buffer c.args.made room, e, ← (c.from.ensures ∙ c.number.ensures)) (c.write_line.ensures.buffer_after ∙ refusal_put buffer number room);
     }

@@ -1,8 +1,0 @@
--- `made_up::room::for_script` meets its contract, by a law: the list itself is too long to be computed.
-use Prim.Native.Nat.{ℕ}
-use mathlib.Core.Path.{sym}
-use lib.ListN.{length-replicate}
-use Rattle.made_up.proofs.room.for_script.Goals as goal
-
-pub returns : goal.returns
-returns c = sym (length-replicate {0} {A = ℕ} 131072 0)
