@@ -3,8 +3,8 @@
 use Prim.Native.Nat.{ℕ, zero, suc, ◌-◌}
 use mathlib.Core.Path.{◌≡◌, refl, ◌∙◌, sym, ap, ap₂, subst, subst₂}
 use mathlib.Core.Bool.{Bool, false, cond}
-use Rattle.std.specs.Prelude.{Option, Result, Ok, Err}
-use mathlib.Core.List.{List, [], ◌∷◌}
+use Rattle.std.specs.Prelude.{Option}
+use mathlib.Core.List.{List, []}
 use lib.ListN.{get_or}
 use borrow.Author.Tests.{eq-eqb, ne_eqb}
 use Rattle.lists.proofs.Places.{place_default}
@@ -16,14 +16,12 @@ use Rattle.turns.specs.declared.Event.{Event}
 use Rattle.ring.specs.State.{start_of, start_state}
 use Rattle.ring.specs.Walk.{quiet}
 use Rattle.tally.specs.Tally.{empty_tally, no_events}
-use Rattle.nightfile.specs.declared.FileRefusal.{FileRefusal}
-use Rattle.nightfile.specs.declared.FileRefusal.TheVariants.{WrongLength, WrongContents, WrongPlanLength, PlanOutOfRange, BytesLeftOver, BadItem}
-use Rattle.nightfile.specs.File.{plan_of, file_number, Told, number_and_place, file_told, file_answer, file_answer_told, file_answer_number, file_answer_place, refusal_number, refusal_place, if_accepted, plan_part, schedule_part}
-use Rattle.nightfile.proofs.Laws.{plan-in_range, answer_told}
+use Rattle.nightfile.specs.File.{plan_of, file_number, Told, number_and_place, file_told, file_place, if_accepted, plan_part, schedule_part}
+use Rattle.nightfile.proofs.Laws.{plan-in_range}
 use Rattle.course.specs.declared.Run.{Run}
 use Rattle.course.specs.declared.Phase.{Phase}
-use Rattle.course.specs.declared.Phase.TheVariants.{Items}
-use Rattle.course.specs.Standing.{nodes_of, first_phase, beginning, past}
+use Rattle.course.specs.declared.Phase.TheVariants.{Items, Refused}
+use Rattle.course.specs.Standing.{nodes_of, beginning, past}
 use Rattle.course.specs.Wording.{event_here, is_event, event_line}
 use Rattle.course.specs.Whole.{Course, says, telling, telling_all, many_steps, items_from, on_items, on_steps, working, course_in, course}
 use Rattle.course.proofs.Moves.{with_next}
@@ -47,41 +45,18 @@ begun state phase =
       over = false;
     }
 
--- a file's answer, by what is told of it
-pub answer_of : Told → Result Unit FileRefusal
-answer_of told =
-    get_or (Ok tt ∷ Err WrongLength ∷ Err WrongContents ∷ Err WrongPlanLength ∷ Err PlanOutOfRange ∷ Err BytesLeftOver ∷ Err (BadItem told.place) ∷ []) told.number (Ok tt)
-
-answer_of_lem : (x : Result Unit FileRefusal) → answer_of (file_answer_told x) ≡ x
-unfolding answer_of file_answer_told file_answer_number file_answer_place refusal_number refusal_place
-answer_of_lem (Ok accepted) = refl
-answer_of_lem (Err WrongLength) = refl
-answer_of_lem (Err WrongContents) = refl
-answer_of_lem (Err WrongPlanLength) = refl
-answer_of_lem (Err PlanOutOfRange) = refl
-answer_of_lem (Err BytesLeftOver) = refl
-answer_of_lem (Err (BadItem place)) = refl
-
-told_answer : (file : List ℕ) → file_answer file ≡ answer_of (file_told file)
-told_answer file = sym (answer_of_lem (file_answer file)) ∙ ap answer_of (answer_told file)
-
-accepted_answer : (file : List ℕ) → file_number file ≡ 0 → file_answer file ≡ Ok tt
-unfolding answer_of file_told number_and_place
-accepted_answer file e = told_answer file ∙ simp e
-
 -- of an accepted file
 accepted_begins : (file : List ℕ) → file_number file ≡ 0 → beginning file ≡ begun (start_of (plan_in file)) Items
-unfolding beginning first_phase start_state plan_in
-accepted_begins file e = simp (plan-in_range file e, accepted_answer file e)
+unfolding beginning start_state plan_in
+accepted_begins file e = simp (plan-in_range file e, eq-eqb _ _ e)
 
 -- of a refused one, by what is told of it
 abbrev pub refused_course : ℕ → Told → Course
-refused_course ceiling told = course ceiling [] (begun (start_state (plan_of [])) (first_phase (answer_of told)))
+refused_course ceiling told = course ceiling [] (begun (start_state (plan_of [])) (Refused told.number told.place))
 
 pub refused-course : (ceiling : ℕ) (file : List ℕ) → (file_number file ≡ 0 → ⊥) → file_course ceiling file ≡ refused_course ceiling (file_told file)
-unfolding file_course beginning plan_part schedule_part if_accepted
-refused-course ceiling file e =
-    simp (ne_eqb _ _ e, told_answer file)
+unfolding file_course beginning plan_part schedule_part if_accepted file_place file_told number_and_place
+refused-course ceiling file e = simp (ne_eqb _ _ e)
 
 -- nodes at which nothing happened are passed by
 quiet_told : (P : Course → Type 0) (n : ℕ) (run : Run) (then : Run → Course) → ((place : ℕ) → is_event (get_or run.events place quiet) ≡ false)

@@ -64,7 +64,7 @@ impl<R: Env + Files> Case<'_, R> {
 
 impl<R: Env + Print> Case<'_, R> {
     // Writes the case's name: its argument, or nothing where that has no room.
-    pub fn write_name(&self) -> Result<()> {
+    fn write_name(&self) -> Result<()> {
         let mut name = [0u8; 4096];
         let length = self.rt.arg(self.argument, &mut name).unwrap_or(0);
         self.rt.write_all(&name[..length])

@@ -9,15 +9,17 @@ use std::env::Env;
 use std::io::Result;
 use std::rt::Files;
 
-// Whether a case agrees. What cannot be opened or read differs. So does a text that fills its buffer,
-// since there may be more of it.
+// Whether a case agrees. What cannot be opened or read differs; where that is the night file, the text is not opened. So does a text
+// that fills its buffer, since there may be more of it.
 fn case_agrees<R: Env + Files>(case: &Case<'_, R>) -> bool {
     let mut file_buffer = [0u8; 65536];
-    let mut text_buffer = [0u8; 65536];
     let file = case.read(b".bin", &mut file_buffer);
+    if file.failed.is_some() {
+        return false;
+    }
+    let mut text_buffer = [0u8; 65536];
     let text = case.read(b".txt", &mut text_buffer);
-    file.failed.is_none()
-        && text.failed.is_none()
+    text.failed.is_none()
         && text.length < text_buffer.len()
         && comparing::file_agrees(&file_buffer[..file.length], &text_buffer[..text.length])
 }

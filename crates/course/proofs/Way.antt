@@ -145,5 +145,5 @@ ready_at_end schedule run other = by_phase run.phase run.over other
     by_phase Ended false other = refl
     by_phase Cut true other = refl
     by_phase Cut false other = refl
-    by_phase (Refused refusal) true other = refl
-    by_phase (Refused refusal) false other = refl
+    by_phase (Refused number place) true other = refl
+    by_phase (Refused number place) false other = refl

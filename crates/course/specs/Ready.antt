@@ -29,7 +29,7 @@ ready_in Items schedule run =
     cond (ltb run.next (nodes_of run)) (is_event (event_here run)) (eqb run.left 0 && is_action (answer_here schedule run))
 ready_in Ended schedule run = true
 ready_in Cut schedule run = true
-ready_in (Refused refusal) schedule run = true
+ready_in (Refused number place) schedule run = true
 
 unfoldable pub ready : List ℕ → Run → Bool
 ready schedule run = run.over || ready_in run.phase schedule run

@@ -1,5 +1,5 @@
 -- 01, "The run and its lines": where a run stands, and how one step, one item and the end change that.
-use Rattle.std.specs.Prelude.{ℕ, ◌+◌, ◌-◌, true, false, List, replicate, Result, Ok, Err}
+use Rattle.std.specs.Prelude.{ℕ, ◌+◌, ◌-◌, cond, true, false, List, eqb, replicate}
 use Rattle.plan.specs.Plan.{node_places, node_count}
 use Rattle.acts.specs.declared.Action.{Action}
 use Rattle.ring.specs.State.{start_state}
@@ -7,8 +7,7 @@ use Rattle.ring.specs.Actions.{acting}
 use Rattle.ring.specs.Walk.{quiet}
 use Rattle.ring.specs.Step.{stepping}
 use Rattle.tally.specs.Tally.{empty_tally, step_tally}
-use Rattle.nightfile.specs.declared.FileRefusal.{FileRefusal}
-use Rattle.nightfile.specs.File.{file_answer, plan_part, plan_of}
+use Rattle.nightfile.specs.File.{file_number, file_place, plan_part, plan_of}
 use Rattle.course.specs.declared.Reached.{Reached}
 use Rattle.course.specs.declared.Run.{Run}
 use Rattle.course.specs.declared.Phase.{Phase}
@@ -21,12 +20,7 @@ nodes_of run = node_count run.reached.state.plan
 unfoldable pub locks_of : Run → ℕ
 locks_of run = run.reached.state.plan.locks
 
--- what a run is at when it starts: its items, or why its file is refused
-unfoldable pub first_phase : Result Unit FileRefusal → Phase
-first_phase (Ok accepted) = Items
-first_phase (Err refusal) = Refused refusal
-
--- a run at its start
+-- a run at its start: of a refused file with its number, and the place beside it
 unfoldable pub beginning : List ℕ → Run
 beginning file =
     record {
@@ -35,7 +29,7 @@ beginning file =
       left = 0;
       events = replicate node_places quiet;
       next = 0;
-      phase = first_phase (file_answer file);
+      phase = cond (eqb (file_number file) 0) Items (Refused (file_number file) (file_place file));
       over = false;
     }
 

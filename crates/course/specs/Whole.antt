@@ -101,7 +101,7 @@ unfoldable pub course_in : Phase → ℕ → List ℕ → Run → Course
 course_in Items ceiling schedule run = working ceiling schedule run
 course_in Ended ceiling schedule run = closing_all run
 course_in Cut ceiling schedule run = closing_all run
-course_in (Refused refusal) ceiling schedule run = says (refusal_line refusal run) run (all_said run) (silence (all_said run))
+course_in (Refused number place) ceiling schedule run = says (refusal_line number place run) run (all_said run) (silence (all_said run))
 
 -- the course of a run from where it stands, over a schedule and under a ceiling of steps
 unfoldable pub course : ℕ → List ℕ → Run → Course

@@ -9,8 +9,6 @@ use Rattle.ring.specs.Walk.{quiet}
 use Rattle.tally.specs.Tally.{sum_of}
 use Rattle.wording.specs.declared.Line.{Line}
 use Rattle.wording.specs.Wording.{action_says, refused_says, event_says, lock_says, last_says, refusal_says}
-use Rattle.nightfile.specs.declared.FileRefusal.{FileRefusal}
-use Rattle.nightfile.specs.File.{refusal_number, refusal_place}
 use Rattle.course.specs.declared.Run.{Run}
 use Rattle.course.specs.declared.Phase.{Phase}
 use Rattle.course.specs.declared.Phase.TheVariants.{Items, Ended, Cut, Refused}
@@ -49,7 +47,7 @@ unfoldable pub is_cut : Phase → Bool
 is_cut Items = false
 is_cut Ended = false
 is_cut Cut = true
-is_cut (Refused refusal) = false
+is_cut (Refused number place) = false
 
 -- the last line, with the sums over all locks
 unfoldable pub last_line : Run → Line
@@ -57,5 +55,5 @@ last_line run =
     last_says run.reached.steps (is_cut run.phase) (sum_of run.reached.tally.grants (locks_of run)) (sum_of run.reached.tally.failed (locks_of run))
 
 -- the line of a refused file
-unfoldable pub refusal_line : FileRefusal → Run → Line
-refusal_line refusal run = refusal_says run.reached.steps (refusal_number refusal) (refusal_place refusal)
+unfoldable pub refusal_line : ℕ → ℕ → Run → Line
+refusal_line number place run = refusal_says run.reached.steps number place

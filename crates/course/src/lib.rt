@@ -1,8 +1,10 @@
 // A run of a night file where it stands, by value, and moved on to its next line.
 #![tactic(auto)]
 
-ghost use Rattle.std.specs.Prelude.{◌≡◌};
-ghost use Rattle.course.specs.Standing.{first_phase, beginning};
+ghost use Rattle.std.specs.Prelude.{◌≡◌, cond, eqb};
+ghost use Rattle.nightfile.specs.File.{file_answer_number, file_answer_place};
+ghost use Rattle.course.specs.declared.Phase.TheVariants.{Items, Refused};
+ghost use Rattle.course.specs.Standing.{beginning};
 
 use nightfile::FileRefusal;
 use plan::NODES;
@@ -20,13 +22,15 @@ pub struct Reached {
     pub steps: u64,
 }
 
-// What a run is at: its items; its end, after all steps or cut at the ceiling; or why its file is refused.
+// What a run is at: its items; its end, after all steps or cut at the ceiling; or a refused file with its number and the place of
+// its first bad item, 0 where no item is the reason. Number and place, and no `FileRefusal`: `Run::onward` and run's `fill` are promised of every run, also
+// of a made-up one with another number, or with a place beside it.
 #[derive(Clone, Copy, Debug, PartialEq, Eq)]
 pub enum Phase {
     Items,
     Ended,
     Cut,
-    Refused(FileRefusal),
+    Refused { number: u8, place: usize },
 }
 
 // A run under way: what it has reached, the place in the schedule, the steps left of the item before that place, the events of
@@ -44,19 +48,22 @@ pub struct Run {
     pub over: bool,
 }
 
-// What a run is at when it starts.
-#[tactic(auto, unfolding(crate::specs::Standing::first_phase))]
+// What a run is at when it starts, by the answer to its file: at its items, or refused, with the place that is told beside the number.
+#[tactic(auto, using(crate::proofs::Told::refusal_told), unfolding(nightfile::specs::File::file_answer_number, nightfile::specs::File::file_answer_place))]
 fn first_phase(answer: Result<(), FileRefusal>) -> Phase
-    ensures { result ≡ first_phase answer }
+    ensures { result ≡ cond (eqb (file_answer_number answer) 0) Items (Refused (file_answer_number answer) (file_answer_place answer)) }
 {
     match answer {
         Ok(()) => Phase::Items,
-        Err(refusal) => Phase::Refused(refusal),
+        Err(refusal) => Phase::Refused {
+            number: refusal.number(),
+            place: refusal.place(),
+        },
     }
 }
 
 // The run of a file, accepted or refused, before its first line.
-#[tactic(auto, using(crate::proofs::Told::started_state), unfolding(crate::specs::Standing::beginning, ring::specs::Walk::quiet))]
+#[tactic(auto, using(crate::proofs::Told::started_state, crate::proofs::Told::answered_number, crate::proofs::Told::answered_place), unfolding(crate::specs::Standing::beginning, ring::specs::Walk::quiet))]
 pub fn begin(file: &[u8]) -> Run
     ensures { result ≡ beginning file.now }
 {

@@ -8,7 +8,7 @@ use lib.Dec.{eqb, ltb}
 use borrow.Author.Tests.{eqb-true, eq-eqb, ne_eqb}
 use Rattle.lists.proofs.Laws.{and_right}
 use Rattle.lists.proofs.Tests.{by_test}
-use Rattle.std.specs.Prelude.{Option, Some, None, is_some, unwrap_or}
+use Rattle.std.specs.Prelude.{Option, Some, None}
 use Rattle.linereader.specs.declared.LineKind.{LineKind}
 use Rattle.linereader.specs.declared.LineKind.TheVariants.{Deed, Lock, Last, Refusal}
 use Rattle.linereader.specs.declared.Part.{Part}
@@ -38,8 +38,8 @@ newline_wrong byte s = record { ends = λ e. absurd (not_both refl e); inside = 
 newline_inside : (byte : ℕ) (s : Scan) (part : Part) → s.part ≡ part → goes_on part ≡ true → (byte ≡ 10 → ⊥) → Newline byte s
 newline_inside byte s part p on other = record { ends = λ e. absurd (true≢false (sym on ∙ ap goes_on (sym p ∙ e))); inside = λ e. other }
 
-digit_newline : (number : Option ℕ) (byte : ℕ) → is_next_digit number byte ≡ true → byte ≡ 10 → ⊥
-digit_newline number byte e z = omega (arith, (next_digit number byte e).at_least, z)
+digit_newline : (begun : Bool) (number byte : ℕ) → is_next_digit begun number byte ≡ true → byte ≡ 10 → ⊥
+digit_newline begun number byte e z = omega (arith, (next_digit begun number byte e).at_least, z)
 
 space_newline : (byte : ℕ) → byte ≡ 32 → byte ≡ 10 → ⊥
 space_newline byte e z = omega (arith, e, z)
@@ -51,7 +51,7 @@ letter_newline byte e z = true≢false (sym e ∙ ap (λ (b : ℕ). is_kind (kin
 number_newline : (s : Scan) (byte : ℕ) → ends_number s byte ≡ true → Newline byte (number_read s)
 unfolding ends_number number_read
 number_newline s byte e =
-    go (is_last_number s) refl (eqb-true byte (cond (is_last_number s) 10 32) (and_right (is_some s.number) _ (and_right (ltb s.count 4) _ e)))
+    go (is_last_number s) refl (eqb-true byte (cond (is_last_number s) 10 32) (and_right s.begun _ (and_right (ltb s.count 4) _ e)))
   where
     go : (last : Bool) → is_last_number s ≡ last → byte ≡ cond last 10 32 → Newline byte (number_read s)
     go true l f = record { ends = λ w. f; inside = λ on. absurd (true≢false (sym on ∙ ap (λ (b : Bool). goes_on (cond b Whole Numbers)) l)) }
@@ -60,10 +60,10 @@ number_newline s byte e =
 newline_in : (part : Part) (s : Scan) (byte : ℕ) → s.part ≡ part → Newline byte (on_byte_in part s byte)
 unfolding on_byte_in on_steps on_letter on_space on_numbers digit_read steps_read letter_read space_read
 newline_in Steps s byte p =
-    by_test (Newline byte) (is_next_digit s.number byte)
-    (λ e. newline_inside byte (digit_read s byte) Steps p refl (digit_newline s.number byte e))
-    (λ e. by_test (Newline byte) (is_some s.number && eqb byte 32)
-    (λ f. newline_inside byte (steps_read s) Letter refl refl (space_newline byte (eqb-true byte 32 (and_right (is_some s.number) (eqb byte 32) f))))
+    by_test (Newline byte) (is_next_digit s.begun s.number byte)
+    (λ e. newline_inside byte (digit_read s byte) Steps p refl (digit_newline s.begun s.number byte e))
+    (λ e. by_test (Newline byte) (s.begun && eqb byte 32)
+    (λ f. newline_inside byte (steps_read s) Letter refl refl (space_newline byte (eqb-true byte 32 (and_right s.begun (eqb byte 32) f))))
     (λ f. newline_wrong byte s))
 newline_in Letter s byte p =
     by_test (Newline byte) (is_kind (kind_of byte))
@@ -74,8 +74,8 @@ newline_in Space s byte p =
     (λ e. newline_inside byte (space_read s) Numbers refl refl (space_newline byte (eqb-true byte 32 e)))
     (λ e. newline_wrong byte s)
 newline_in Numbers s byte p =
-    by_test (Newline byte) (is_next_digit s.number byte)
-    (λ e. newline_inside byte (digit_read s byte) Numbers p refl (digit_newline s.number byte e))
+    by_test (Newline byte) (is_next_digit s.begun s.number byte)
+    (λ e. newline_inside byte (digit_read s byte) Numbers p refl (digit_newline s.begun s.number byte e))
     (λ e. by_test (Newline byte) (ends_number s byte) (λ f. number_newline s byte f) (λ f. newline_wrong byte s))
 newline_in Whole s byte p = newline_wrong byte s
 newline_in Wrong s byte p = newline_wrong byte s
@@ -93,11 +93,11 @@ data Ended (g h : Gather) : Type 0 where
 line_ended : (kind : Option LineKind) (t : Scan) (g : Gather) → Ended g (after_line kind t g)
 unfolding after_line deed_read lock_read last_read refusal_read
 line_ended None t g = badly NoLine refl
-line_ended (Some Deed) t g = by_test (Ended g) (eqb (unwrap_or g.run 0) 0) (λ e. well refl refl) (λ e. badly DeedBehindLock refl)
+line_ended (Some Deed) t g = by_test (Ended g) (eqb g.locks 0) (λ e. well refl refl) (λ e. badly DeedBehindLock refl)
 line_ended (Some Lock) t g =
-    by_test (Ended g) (is_next_lock (first_of t) (unwrap_or g.run 0)) (λ e. well refl refl) (λ e. badly LockOutOfOrder refl)
+    by_test (Ended g) (is_next_lock (first_of t) g.locks) (λ e. well refl refl) (λ e. badly LockOutOfOrder refl)
 line_ended (Some Last) t g = well refl refl
-line_ended (Some Refusal) t g = by_test (Ended g) (is_some g.run) (λ e. badly RefusalInside refl) (λ e. well refl refl)
+line_ended (Some Refusal) t g = by_test (Ended g) g.inside (λ e. badly RefusalInside refl) (λ e. well refl refl)
 
 -- ---- one byte
 

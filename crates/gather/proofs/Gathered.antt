@@ -8,7 +8,7 @@ use lib.Dec.{ltb, lit≤}
 use lib.ListN.{length, get_or}
 use borrow.Author.Tests.{lt-ltb, ltb-true, ltb-false}
 use Rattle.lists.proofs.Tests.{by_test}
-use Rattle.std.specs.Prelude.{None, is_some, unwrap_or}
+use Rattle.std.specs.Prelude.{None}
 use Rattle.linereader.specs.declared.Scan.{Scan}
 use Rattle.linereader.specs.Reading.{start_scan}
 use Rattle.sums.specs.Sheet.{number_at}
@@ -48,7 +48,7 @@ carry_on P g text rest rows does p =
 -- at the start of a line, with so many H lines of the run at hand, runs and refused ones
 record Stood (locks runs refused : ℕ) (g : Gather) : Type 0 where
   at : AtLine g
-  had : unwrap_or g.run 0 ≡ locks
+  had : g.locks ≡ locks
   ran_before : g.runs ≡ runs
   refused_before : g.refused ≡ refused
 
@@ -101,12 +101,12 @@ locks_done {had} {r} {q} g rows long LocksFrom.none s =
       own = λ a k below b. absurd (omega (arith, below));
     }
 locks_done {had} {r} {q} g rows long (LocksFrom.one_more {l = l} {rest = rest} k e small ls) s =
-    let between : List ℕ = lock_rows l.numbers g.runs (unwrap_or g.run 0) rows in
+    let between : List ℕ = lock_rows l.numbers g.runs g.locks rows in
     carry_on (LocksDone had r q (l ∷ rest) rows) g (line_text l) (lines_text rest) rows
     (lock-line l g s.at k (e ∙ sym s.had) (omega (arith, small, s.had)))
     (lock_first had r q l rest rows (after_all (lock_read g) (lines_text rest)) (rows_after_all (lock_read g) (lines_text rest) between) long
     (ap₂ (λ (run lock : ℕ). lock_rows l.numbers run lock rows) s.ran_before s.had)
-    (locks_done (lock_read g) between (lock_long l.numbers g.runs (unwrap_or g.run 0) rows ∙ long) ls
+    (locks_done (lock_read g) between (lock_long l.numbers g.runs g.locks rows ∙ long) ls
     (record {
       at = record { start = refl; fine = s.at.fine };
       had = ap more s.had ∙ one_more had small;
@@ -116,7 +116,7 @@ locks_done {had} {r} {q} g rows long (LocksFrom.one_more {l = l} {rest = rest} k
 
 record RunDone (runs refused : ℕ) (run : RunLines) (rows : List ℕ) (h : Gather) (after : List ℕ) : Type 0 where
   stood : Stood 0 (one_run_more runs) refused h
-  out : is_some h.run ≡ false
+  out : h.inside ≡ false
   kept : (j : ℕ) → j < runs * 194 → get_or after j 0 ≡ get_or rows j 0
   row : runs < 401 → RowOf after runs run
 
@@ -164,8 +164,8 @@ run-done {r} {q} g run rows long is s =
     let g₂ : Gather = after_all g₁ locks in
     let rows₂ : List ℕ = rows_after_all g₁ locks rows₁ in
     let long₂ : length rows₂ ≡ 401 * 194 = rows_long g₁ locks rows₁ ∙ long₁ in
-    let had : unwrap_or g₂.run 0 ≡ many = two.stood.had ∙ omega arith in
-    let same : last_rows steps g₂.runs (unwrap_or g₂.run 0) rows₂ ≡ last_rows steps r many rows₂ =
+    let had : g₂.locks ≡ many = two.stood.had ∙ omega arith in
+    let same : last_rows steps g₂.runs g₂.locks rows₂ ≡ last_rows steps r many rows₂ =
     ap₂ (λ (n m : ℕ). last_rows steps n m rows₂) two.stood.ran_before had in
     let done : RunDone r q run rows (last_read g₂) (last_rows steps r many rows₂) =
     record {
@@ -189,7 +189,7 @@ run-done {r} {q} g run rows long is s =
 
 record PiecesDone (runs refused : ℕ) (ps : List Piece) (rows : List ℕ) (h : Gather) (after : List ℕ) : Type 0 where
   at : AtLine h
-  out : is_some h.run ≡ false
+  out : h.inside ≡ false
   ran_all : h.runs ≡ min (runs + length (runs_in ps)) 401
   refused_all : refused + refused_in ps < 2 ^ 64 → h.refused ≡ refused + refused_in ps
   kept : (j : ℕ) → j < runs * 194 → get_or after j 0 ≡ get_or rows j 0
@@ -256,7 +256,7 @@ refused-first r q l rest rows h after next =
       row = next.row;
     }
 
-pieces_done : {r q : ℕ} {ps : List Piece} (g : Gather) (rows : List ℕ) → length rows ≡ 401 * 194 → r ≤ 401 → Pieces ps → Stood 0 r q g → is_some g.run ≡ false
+pieces_done : {r q : ℕ} {ps : List Piece} (g : Gather) (rows : List ℕ) → length rows ≡ 401 * 194 → r ≤ 401 → Pieces ps → Stood 0 r q g → g.inside ≡ false
     → PiecesDone r q ps rows (after_all g (pieces_text ps)) (rows_after_all g (pieces_text ps) rows)
 unfolding pieces_text piece_text after_all rows_after_all runs_in refused_in refusal_read
 pieces_done {r} {q} g rows long few Pieces.none s out =
@@ -285,11 +285,11 @@ pieces_done {r} {q} g rows long few (Pieces.one_refused {l = l} {rest = rest} k 
 -- ---- from the start of a text
 
 -- at the start of a line, outside a run, the text may end
-fine_end : (g : Gather) → AtLine g → is_some g.run ≡ false → fault_of g ≡ None
+fine_end : (g : Gather) → AtLine g → g.inside ≡ false → fault_of g ≡ None
 unfolding fault_of start_scan at_line_start is_steps end_fault
 fine_end g at out =
-    ap (λ (b : Bool). cond b (end_fault (at_line_start g.scan.part (is_some g.scan.number)) (is_some g.run)) g.fault) at.fine
-    ∙ ap₂ (λ (s : Scan) (b : Bool). end_fault (at_line_start s.part (is_some s.number)) b) at.start out
+    ap (λ (b : Bool). cond b (end_fault (at_line_start g.scan.part g.scan.begun) g.inside) g.fault) at.fine
+    ∙ ap₂ (λ (s : Scan) (b : Bool). end_fault (at_line_start s.part s.begun) b) at.start out
 
 pub runs_are_gathered : RunsAreGathered
 unfolding start_gather is_fine

@@ -5,7 +5,7 @@ use mathlib.Core.Bool.{Bool, true, false, cond, ◌&&◌}
 use mathlib.Core.List.{List}
 use lib.Dec.{ltb}
 use lib.ListN.{length, length-set}
-use Rattle.std.specs.Prelude.{Option, Some, None, unwrap_or}
+use Rattle.std.specs.Prelude.{Option, Some, None}
 use Rattle.linereader.specs.declared.LineKind.{LineKind}
 use Rattle.linereader.specs.declared.LineKind.TheVariants.{Deed, Lock, Last, Refusal}
 use Rattle.linereader.specs.declared.Part.{Part}
@@ -36,8 +36,8 @@ unfolding rows_after_line
 line_long None scan state rows = refl
 line_long (Some Deed) scan state rows = refl
 line_long (Some Lock) scan state rows =
-    choice_long (is_next_lock (first_of scan) (unwrap_or state.run 0)) _ rows (lock_long scan.numbers state.runs (unwrap_or state.run 0) rows)
-line_long (Some Last) scan state rows = last_long scan.steps state.runs (unwrap_or state.run 0) rows
+    choice_long (is_next_lock (first_of scan) state.locks) _ rows (lock_long scan.numbers state.runs state.locks rows)
+line_long (Some Last) scan state rows = last_long scan.steps state.runs state.locks rows
 line_long (Some Refusal) scan state rows = refl
 
 part_long : (part : Part) (scan : Scan) (state : Gather) (rows : List ℕ) → length (rows_after_part part scan state rows) ≡ length rows

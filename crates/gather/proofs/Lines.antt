@@ -9,7 +9,7 @@ use lib.ListN.{get_or}
 use lib.Seq.{get_or-take}
 use borrow.Author.Tests.{lt-ltb, eq-eqb}
 use Rattle.lists.proofs.Tests.{and_both}
-use Rattle.std.specs.Prelude.{Option, Some, None, is_some, unwrap_or}
+use Rattle.std.specs.Prelude.{Option, Some, None}
 use Rattle.linereader.specs.declared.LineKind.{LineKind}
 use Rattle.linereader.specs.declared.LineKind.TheVariants.{Deed, Lock, Last, Refusal}
 use Rattle.linereader.specs.declared.Part.{Part}
@@ -164,11 +164,11 @@ of_kind_line kind l g at k =
     subst (λ (k : Option LineKind). Does g (line_text l) (after_line k w g) (rows_after_line k w g)) (ap kind_of (scan_of l k.is_line).letter_read ∙ k.of_kind)
     (written-line l g at k.is_line)
 
-pub deed_line : (l : TextLine) (g : Gather) → AtLine g → OfKind Deed l → unwrap_or g.run 0 ≡ 0 → Does g (line_text l) (deed_read g) (λ rows. rows)
+pub deed_line : (l : TextLine) (g : Gather) → AtLine g → OfKind Deed l → g.locks ≡ 0 → Does g (line_text l) (deed_read g) (λ rows. rows)
 unfolding after_line rows_after_line
 deed_line l g at k none =
     let d = of_kind_line Deed l g at k in
-    record { stands = d.stands ∙ ap (λ (b : Bool). cond b (deed_read g) (faulty DeedBehindLock g)) (eq-eqb (unwrap_or g.run 0) 0 none); gathered = d.gathered }
+    record { stands = d.stands ∙ ap (λ (b : Bool). cond b (deed_read g) (faulty DeedBehindLock g)) (eq-eqb g.locks 0 none); gathered = d.gathered }
 
 -- an H line has four numbers
 four_numbers : (letter : ℕ) → kind_of letter ≡ Some Lock → numbers_behind letter ≡ 4
@@ -197,31 +197,31 @@ lock_rows_same : (ns ms : List ℕ) (run lock : ℕ) (rows : List ℕ) → ((i :
 unfolding lock_rows
 lock_rows_same ns ms run lock rows e = rw (e 1 (lit< tt), e 2 (lit< tt), e 3 (lit< tt))
 
-pub lock-line : (l : TextLine) (g : Gather) → AtLine g → OfKind Lock l → get_or l.numbers 0 0 ≡ unwrap_or g.run 0 → unwrap_or g.run 0 < 2 ^ 64 - 1
-    → Does g (line_text l) (lock_read g) (lock_rows l.numbers g.runs (unwrap_or g.run 0))
+pub lock-line : (l : TextLine) (g : Gather) → AtLine g → OfKind Lock l → get_or l.numbers 0 0 ≡ g.locks → g.locks < 2 ^ 64 - 1
+    → Does g (line_text l) (lock_read g) (lock_rows l.numbers g.runs g.locks)
 unfolding after_line rows_after_line is_next_lock first_of
 lock-line l g at k e small =
     let d = of_kind_line Lock l g at k in
     let w : Scan = scan_all start_scan (line_text l) in
-    let first : get_or w.numbers 0 0 ≡ unwrap_or g.run 0 = lock_number l k 0 (lit< tt) ∙ e in
-    let next : is_next_lock (first_of w) (unwrap_or g.run 0) ≡ true =
-    and_both (eq-eqb (get_or w.numbers 0 0) (unwrap_or g.run 0) first) (lt-ltb (get_or w.numbers 0 0) (2 ^ 64 - 1) (omega (arith, first, small))) in
+    let first : get_or w.numbers 0 0 ≡ g.locks = lock_number l k 0 (lit< tt) ∙ e in
+    let next : is_next_lock (first_of w) g.locks ≡ true =
+    and_both (eq-eqb (get_or w.numbers 0 0) g.locks first) (lt-ltb (get_or w.numbers 0 0) (2 ^ 64 - 1) (omega (arith, first, small))) in
     record {
       stands = d.stands ∙ ap (λ (b : Bool). cond b (lock_read g) (faulty LockOutOfOrder g)) next;
-      gathered = λ rows. d.gathered rows ∙ ap (λ (b : Bool). cond b (lock_rows w.numbers g.runs (unwrap_or g.run 0) rows) rows) next
-          ∙ lock_rows_same w.numbers l.numbers g.runs (unwrap_or g.run 0) rows (lock_number l k);
+      gathered = λ rows. d.gathered rows ∙ ap (λ (b : Bool). cond b (lock_rows w.numbers g.runs g.locks rows) rows) next
+          ∙ lock_rows_same w.numbers l.numbers g.runs g.locks rows (lock_number l k);
     }
 
-pub last_line : (l : TextLine) (g : Gather) → AtLine g → OfKind Last l → Does g (line_text l) (last_read g) (last_rows l.steps g.runs (unwrap_or g.run 0))
+pub last_line : (l : TextLine) (g : Gather) → AtLine g → OfKind Last l → Does g (line_text l) (last_read g) (last_rows l.steps g.runs g.locks)
 unfolding after_line rows_after_line
 last_line l g at k =
     let d = of_kind_line Last l g at k in
     record {
       stands = d.stands;
-      gathered = λ rows. d.gathered rows ∙ ap (λ (steps : ℕ). last_rows steps g.runs (unwrap_or g.run 0) rows) (scan_of l k.is_line).steps_read;
+      gathered = λ rows. d.gathered rows ∙ ap (λ (steps : ℕ). last_rows steps g.runs g.locks rows) (scan_of l k.is_line).steps_read;
     }
 
-pub refusal-line : (l : TextLine) (g : Gather) → AtLine g → OfKind Refusal l → is_some g.run ≡ false → Does g (line_text l) (refusal_read g) (λ rows. rows)
+pub refusal-line : (l : TextLine) (g : Gather) → AtLine g → OfKind Refusal l → g.inside ≡ false → Does g (line_text l) (refusal_read g) (λ rows. rows)
 unfolding after_line rows_after_line
 refusal-line l g at k out =
     let d = of_kind_line Refusal l g at k in

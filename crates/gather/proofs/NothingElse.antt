@@ -1,7 +1,7 @@
 -- A text that has no fault is the text of runs: from each place on, what is left of it is the rest of the run at hand and the pieces behind it.
 use Prim.Native.Nat.{ℕ, ◌+◌, ◌-◌, ◌^◌, ◌<◌}
 use mathlib.Core.Path.{◌≡◌, refl, sym, ap, subst, ◌∙◌}
-use mathlib.Core.Bool.{Bool, true, false, cond, not, ◌&&◌, true≢false}
+use mathlib.Core.Bool.{Bool, true, false, cond, ◌&&◌, true≢false}
 use mathlib.Core.List.{List, [], ◌∷◌, ◌++◌, append_assoc, append-nil}
 use native.Mathlib.Omega.{arith}
 use lib.Dec.{eqb, ltb, lit<}
@@ -9,7 +9,7 @@ use lib.ListN.{get_or}
 use borrow.Author.Tests.{eqb-true, ltb-true}
 use Rattle.lists.proofs.Laws.{and_left, and_right}
 use Rattle.lists.proofs.Tests.{by_test}
-use Rattle.std.specs.Prelude.{Option, Some, None, is_some, unwrap_or}
+use Rattle.std.specs.Prelude.{Option, Some, None}
 use Rattle.linereader.specs.declared.LineKind.{LineKind}
 use Rattle.linereader.specs.declared.LineKind.TheVariants.{Deed, Lock, Last, Refusal}
 use Rattle.linereader.specs.declared.Part.{Part}
@@ -41,9 +41,9 @@ record RunRest (had : ℕ) (text : List ℕ) : Type 0 where
   same : text ≡ lines_text deeds ++ (lines_text locks ++ (line_text last ++ pieces_text behind))
 
 -- what is left inside a run, or between runs
-abbrev Rest : Option ℕ → List ℕ → Type 0
-Rest (Some had) text = RunRest had text
-Rest None text = TextOfRuns text
+abbrev Rest : Bool → ℕ → List ℕ → Type 0
+Rest true had text = RunRest had text
+Rest false had text = TextOfRuns text
 
 -- ---- one line in front of what is left
 
@@ -114,18 +114,9 @@ run_front text r =
       same = r.same ∙ simp append_assoc;
     }
 
-of_run : (run : Option ℕ) (text : List ℕ) → RunRest (unwrap_or run 0) text → Rest run text
-of_run (Some had) text r = r
-of_run None text r = run_front text r
-
--- between runs
-refusal_alone : (run : Option ℕ) (l : TextLine) (rest : List ℕ) → is_some run ≡ false → OfKind Refusal l → Rest run rest → Rest run (line_text l ++ rest)
-refusal_alone (Some had) l rest e k r = absurd (true≢false e)
-refusal_alone None l rest e k r = refusal_front l rest k r
-
-between : (run : Option ℕ) (text : List ℕ) → is_some run ≡ false → TextOfRuns text → Rest run text
-between (Some had) text e r = absurd (true≢false e)
-between None text e r = r
+begun : (inside : Bool) (had : ℕ) (text : List ℕ) → (inside ≡ false → had ≡ 0) → RunRest had text → Rest inside had text
+begun true had text none r = r
+begun false had text none r = run_front text (subst (λ (n : ℕ). RunRest n text) (none refl) r)
 
 -- ---- a whole line
 
@@ -136,62 +127,61 @@ not_fine fault g rest e =
     let found : Some fault ≡ None = ap fault_of (sym (fault_stays rest (faulty fault g) refl)) ∙ e in
     true≢false (cc)
 
-line_found : (kind : Option LineKind) (l : TextLine) (g : Gather) (rest : List ℕ) → is_fine g.fault ≡ true → IsLine l.steps l.letter l.numbers
-    → kind_of l.letter ≡ kind
-    → ((h : Gather) → is_fine h.fault ≡ true → fault_of (after_all (inside_line start_scan h) rest) ≡ None → Rest h.run rest)
-    → fault_of (after_all (after_line kind (scan_all start_scan (line_text l)) g) rest) ≡ None → Rest g.run (line_text l ++ rest)
+line_found : (kind : Option LineKind) (l : TextLine) (g : Gather) (rest : List ℕ) → is_fine g.fault ≡ true → (g.inside ≡ false → g.locks ≡ 0)
+    → IsLine l.steps l.letter l.numbers → kind_of l.letter ≡ kind
+    → ((h : Gather) → is_fine h.fault ≡ true → (h.inside ≡ false → h.locks ≡ 0) → fault_of (after_all (inside_line start_scan h) rest) ≡ None
+    → Rest h.inside h.locks rest)
+    → fault_of (after_all (after_line kind (scan_all start_scan (line_text l)) g) rest) ≡ None → Rest g.inside g.locks (line_text l ++ rest)
 unfolding after_line deed_read lock_read last_read refusal_read inside_line is_next_lock first_of is_fine
-line_found None l g rest fine is k next = λ e. absurd (not_fine NoLine g rest e)
-line_found (Some Deed) l g rest fine is k next =
-    by_test (λ (h : Gather). fault_of (after_all h rest) ≡ None → Rest g.run (line_text l ++ rest)) (eqb (unwrap_or g.run 0) 0)
+line_found None l g rest fine none is k next = λ e. absurd (not_fine NoLine g rest e)
+line_found (Some Deed) l g rest fine none is k next =
+    by_test (λ (h : Gather). fault_of (after_all h rest) ≡ None → Rest g.inside g.locks (line_text l ++ rest)) (eqb g.locks 0)
     (λ t e.
-    let z : unwrap_or g.run 0 ≡ 0 = eqb-true (unwrap_or g.run 0) 0 t in
-    let on : RunRest (unwrap_or g.run 0) rest = next (deed_read g) fine e in
-    of_run g.run (line_text l ++ rest)
-    (subst (λ (n : ℕ). RunRest n (line_text l ++ rest)) (sym z)
-    (deed_front l rest (record { is_line = is; of_kind = k }) (subst (λ (n : ℕ). RunRest n rest) z on))))
+    let z : g.locks ≡ 0 = eqb-true g.locks 0 t in
+    let on : RunRest g.locks rest = next (deed_read g) fine (λ f. absurd (true≢false f)) e in
+    begun g.inside g.locks (line_text l ++ rest) none
+    (subst (λ (n : ℕ). RunRest n (line_text l ++ rest)) (sym z) (deed_front l rest (record { is_line = is; of_kind = k }) (subst (λ (n : ℕ). RunRest n rest) z on))))
     (λ t e. absurd (not_fine DeedBehindLock g rest e))
-line_found (Some Lock) l g rest fine is k next =
-    let had : ℕ = unwrap_or g.run 0 in
+line_found (Some Lock) l g rest fine none is k next =
     let of : OfKind Lock l = record { is_line = is; of_kind = k } in
     let first : ℕ = get_or (scan_all start_scan (line_text l)).numbers 0 0 in
-    by_test (λ (h : Gather). fault_of (after_all h rest) ≡ None → Rest g.run (line_text l ++ rest)) (eqb first had && ltb first (2 ^ 64 - 1))
+    by_test (λ (h : Gather). fault_of (after_all h rest) ≡ None → Rest g.inside g.locks (line_text l ++ rest)) (eqb first g.locks && ltb first (2 ^ 64 - 1))
     (λ t e.
-    let z : first ≡ had = eqb-true first had (and_left (eqb first had) (ltb first (2 ^ 64 - 1)) t) in
-    let low : first < 2 ^ 64 - 1 = ltb-true first (2 ^ 64 - 1) (and_right (eqb first had) (ltb first (2 ^ 64 - 1)) t) in
-    let small : had < 2 ^ 64 - 1 = omega (arith, z, low) in
-    let on : RunRest (more had) rest = next (lock_read g) fine e in
-    of_run g.run (line_text l ++ rest)
-    (lock_front had l rest of (sym (lock_number l of 0 (lit< tt)) ∙ z) small (subst (λ (n : ℕ). RunRest n rest) (one_more had small) on)))
+    let z : first ≡ g.locks = eqb-true first g.locks (and_left (eqb first g.locks) (ltb first (2 ^ 64 - 1)) t) in
+    let low : first < 2 ^ 64 - 1 = ltb-true first (2 ^ 64 - 1) (and_right (eqb first g.locks) (ltb first (2 ^ 64 - 1)) t) in
+    let small : g.locks < 2 ^ 64 - 1 = omega (arith, z, low) in
+    let on : RunRest (more g.locks) rest = next (lock_read g) fine (λ f. absurd (true≢false f)) e in
+    begun g.inside g.locks (line_text l ++ rest) none
+    (lock_front g.locks l rest of (sym (lock_number l of 0 (lit< tt)) ∙ z) small (subst (λ (n : ℕ). RunRest n rest) (one_more g.locks small) on)))
     (λ t e. absurd (not_fine LockOutOfOrder g rest e))
-line_found (Some Last) l g rest fine is k next = λ e.
-    of_run g.run (line_text l ++ rest) (last_front (unwrap_or g.run 0) l rest (record { is_line = is; of_kind = k }) (next (last_read g) fine e))
-line_found (Some Refusal) l g rest fine is k next =
-    by_test (λ (h : Gather). fault_of (after_all h rest) ≡ None → Rest g.run (line_text l ++ rest)) (is_some g.run)
+line_found (Some Last) l g rest fine none is k next = λ e.
+    begun g.inside g.locks (line_text l ++ rest) none (last_front g.locks l rest (record { is_line = is; of_kind = k }) (next (last_read g) fine (λ f. refl) e))
+line_found (Some Refusal) l g rest fine none is k next =
+    by_test (λ (h : Gather). fault_of (after_all h rest) ≡ None → Rest g.inside g.locks (line_text l ++ rest)) g.inside
     (λ t e. absurd (not_fine RefusalInside g rest e))
-    (λ t e. refusal_alone g.run l rest t (record { is_line = is; of_kind = k }) (next (refusal_read g) fine e))
+    (λ t e.
+    let on : Rest g.inside g.locks rest = next (refusal_read g) fine none e in
+    subst (λ (b : Bool). Rest b g.locks (line_text l ++ rest)) (sym t)
+    (refusal_front l rest (record { is_line = is; of_kind = k }) (subst (λ (b : Bool). Rest b g.locks rest) t on)))
 
 -- ---- the text, byte by byte
 
 -- at the end there is nothing of a line, and no run is open
-nothing_read : (part : Part) (s : Scan) → at_line_start part (is_some s.number) ≡ true → read_in part s ≡ []
+nothing_read : (part : Part) (some : Bool) (s : Scan) → s.part ≡ part → s.begun ≡ some → at_line_start part some ≡ true → read_in part s ≡ []
 unfolding at_line_start is_steps
-nothing_read Steps s e = none s.number e
-  where
-    none : (number : Option ℕ) → not (is_some number) ≡ true → shown number ≡ []
-    none None e = refl
-    none (Some number) e = absurd (true≢false (sym e))
-nothing_read Letter s e = absurd (true≢false (sym e))
-nothing_read Space s e = absurd (true≢false (sym e))
-nothing_read Numbers s e = absurd (true≢false (sym e))
-nothing_read Whole s e = absurd (true≢false (sym e))
-nothing_read Wrong s e = absurd (true≢false (sym e))
+nothing_read Steps true s p b e = absurd (true≢false (sym e))
+nothing_read Steps false s p b e = ap (λ (c : Bool). shown c s.number) b
+nothing_read Letter some s p b e = absurd (true≢false (sym e))
+nothing_read Space some s p b e = absurd (true≢false (sym e))
+nothing_read Numbers some s p b e = absurd (true≢false (sym e))
+nothing_read Whole some s p b e = absurd (true≢false (sym e))
+nothing_read Wrong some s p b e = absurd (true≢false (sym e))
 
-all_read : (s : Scan) (read : List ℕ) → After read s → at_line_start s.part (is_some s.number) ≡ true → read ≡ []
+all_read : (s : Scan) (read : List ℕ) → After read s → at_line_start s.part s.begun ≡ true → read ≡ []
 unfolding at_line_start is_steps
-all_read s read (After.no e) start = absurd (true≢false (sym start ∙ ap (λ (p : Part). at_line_start p (is_some s.number)) e))
+all_read s read (After.no e) start = absurd (true≢false (sym start ∙ ap (λ (p : Part). at_line_start p s.begun) e))
 all_read s read (After.on part p h e) start =
-    sym e ∙ nothing_read part s (ap (λ (q : Part). at_line_start q (is_some s.number)) (sym p) ∙ start)
+    sym e ∙ nothing_read part s.begun s p refl (ap (λ (q : Part). at_line_start q s.begun) (sym p) ∙ start)
 
 -- a fine end: at the start of a line, outside a run
 ends : (start inside : Bool) → end_fault start inside ≡ None → (start ≡ true) × (inside ≡ false)
@@ -200,22 +190,22 @@ ends true true e = cc
 ends true false e = (refl, refl)
 ends false inside e = cc
 
-at_end_lem : (read : List ℕ) (g : Gather) → is_fine g.fault ≡ true → fault_of (inside_line (scan_all start_scan read) g) ≡ None → Rest g.run (read ++ [])
+at_end_lem : (read : List ℕ) (g : Gather) → is_fine g.fault ≡ true → fault_of (inside_line (scan_all start_scan read) g) ≡ None → Rest g.inside g.locks (read ++ [])
 unfolding fault_of inside_line pieces_text
 at_end_lem read g fine e =
     let s : Scan = scan_all start_scan read in
-    let both = ends (at_line_start s.part (is_some s.number)) (is_some g.run)
-    (sym (ap (λ (b : Bool). cond b (end_fault (at_line_start s.part (is_some s.number)) (is_some g.run)) g.fault) fine) ∙ e) in
-    between g.run (read ++ []) both.1
+    let both = ends (at_line_start s.part s.begun) g.inside
+    (sym (ap (λ (b : Bool). cond b (end_fault (at_line_start s.part s.begun) g.inside) g.fault) fine) ∙ e) in
+    subst (λ (b : Bool). Rest b g.locks (read ++ [])) (sym both.1)
     (record { pieces = []; right = Pieces.none; same = append-nil read ∙ all_read s read (text-after read) both.0 })
 
-rest_found : (text read : List ℕ) (g : Gather) → is_fine g.fault ≡ true
-    → fault_of (after_all (inside_line (scan_all start_scan read) g) text) ≡ None → Rest g.run (read ++ text)
+rest_found : (text read : List ℕ) (g : Gather) → is_fine g.fault ≡ true → (g.inside ≡ false → g.locks ≡ 0)
+    → fault_of (after_all (inside_line (scan_all start_scan read) g) text) ≡ None → Rest g.inside g.locks (read ++ text)
 unfolding after_all scan_all line_text is_fine
-rest_found [] read g fine e = at_end_lem read g fine e
-rest_found (byte ∷ rest) read g fine e =
+rest_found [] read g fine none e = at_end_lem read g fine e
+rest_found (byte ∷ rest) read g fine none e =
     go (one_byte (scan_all start_scan read) byte g fine)
-    (rest_found rest (read ++ (byte ∷ [])) g fine)
+    (rest_found rest (read ++ (byte ∷ [])) g fine none)
     (λ h. rest_found rest [] h)
   where
     s : Scan
@@ -224,13 +214,14 @@ rest_found (byte ∷ rest) read g fine e =
     one : scan_all start_scan (read ++ (byte ∷ [])) ≡ scan_byte s byte
     one = scan_append start_scan read (byte ∷ [])
 
-    go : OneByte s byte g → (fault_of (after_all (inside_line (scan_all start_scan (read ++ (byte ∷ []))) g) rest) ≡ None → Rest g.run ((read ++ (byte ∷ [])) ++ rest))
-        → ((h : Gather) → is_fine h.fault ≡ true → fault_of (after_all (inside_line (scan_all start_scan []) h) rest) ≡ None → Rest h.run rest)
-        → Rest g.run (read ++ (byte ∷ rest))
+    go : OneByte s byte g → (fault_of (after_all (inside_line (scan_all start_scan (read ++ (byte ∷ []))) g) rest) ≡ None → Rest g.inside g.locks ((read ++ (byte ∷ [])) ++ rest))
+        → ((h : Gather) → is_fine h.fault ≡ true → (h.inside ≡ false → h.locks ≡ 0) → fault_of (after_all (inside_line (scan_all start_scan []) h) rest) ≡ None
+        → Rest h.inside h.locks rest)
+        → Rest g.inside g.locks (read ++ (byte ∷ rest))
     go (OneByte.inside o b f) on next =
         let fine_on : fault_of (after_all (inside_line (scan_all start_scan (read ++ (byte ∷ []))) g) rest) ≡ None =
         ap (λ (t : Scan). fault_of (after_all (inside_line t g) rest)) one ∙ ap (λ (h : Gather). fault_of (after_all h rest)) (sym b) ∙ e in
-        subst (Rest g.run) (append_assoc read (byte ∷ []) rest) (on fine_on)
+        subst (Rest g.inside g.locks) (append_assoc read (byte ∷ []) rest) (on fine_on)
     go (OneByte.whole p b f) on next =
         let found = read_is_written (read ++ (byte ∷ [])) (ap (λ (t : Scan). t.part) one ∙ p) in
         let l : TextLine = record { steps = found.steps; letter = found.letter; numbers = found.numbers } in
@@ -240,10 +231,10 @@ rest_found (byte ∷ rest) read g fine e =
         let after : after_all (after_byte (inside_line s g) byte) rest ≡ after_all (after_line (kind_of l.letter) w g) rest =
         ap (λ (h : Gather). after_all h rest)
         (b ∙ ap (λ (t : Scan). after_line (kind_of t.letter) t g) scan_same ∙ ap (λ (n : ℕ). after_line (kind_of n) w g) (scan_of l found.is_line).letter_read) in
-        subst (Rest g.run) (ap (λ (t : List ℕ). t ++ rest) (sym same) ∙ append_assoc read (byte ∷ []) rest)
-        (line_found (kind_of l.letter) l g rest fine found.is_line refl next (ap fault_of (sym after) ∙ e))
+        subst (Rest g.inside g.locks) (ap (λ (t : List ℕ). t ++ rest) (sym same) ∙ append_assoc read (byte ∷ []) rest)
+        (line_found (kind_of l.letter) l g rest fine none found.is_line refl next (ap fault_of (sym after) ∙ e))
     go (OneByte.bad p b) on next = absurd (not_fine NoLine g rest (ap (λ (h : Gather). fault_of (after_all h rest)) (sym b) ∙ e))
 
 pub nothing_else_is_fine : NothingElseIsFine
 unfolding start_gather inside_line scan_all is_fine
-nothing_else_is_fine text e = rest_found text [] start_gather refl e
+nothing_else_is_fine text e = rest_found text [] start_gather refl (λ f. refl) e

@@ -1,7 +1,7 @@
 -- For 02, item 13: the lines of any number of runs, one after the other, as the night program writes them, gathered byte by byte into the rows of
 -- numbers that a sheet is made of (sums, `Sheet`). A run is lines of actions and events, then its H lines from lock 0 up, then its E or C line; a
 -- refused run is one Q line. Text that is no run is told by what is wrong in it and by the number of its line.
-use Rattle.std.specs.Prelude.{ℕ, ◌+◌, ◌-◌, ◌*◌, ◌^◌, Bool, true, false, cond, not, ◌&&◌, List, [], ◌∷◌, Option, Some, None, is_some, unwrap_or, eqb, ltb, get_or, set, take}
+use Rattle.std.specs.Prelude.{ℕ, ◌+◌, ◌-◌, ◌*◌, ◌^◌, Bool, true, false, cond, not, ◌&&◌, List, [], ◌∷◌, Option, Some, None, eqb, ltb, get_or, set, take}
 use Rattle.linereader.specs.declared.LineKind.{LineKind}
 use Rattle.linereader.specs.declared.LineKind.TheVariants.{Deed, Lock, Last, Refusal}
 use Rattle.linereader.specs.declared.Part.{Part}
@@ -19,7 +19,7 @@ rows_kept = 401
 
 -- at the start of the text
 unfoldable pub start_gather : Gather
-start_gather = record { scan = start_scan; lines = 0; run = None; runs = 0; refused = 0; fault = None }
+start_gather = record { scan = start_scan; lines = 0; inside = false; locks = 0; runs = 0; refused = 0; fault = None }
 
 -- one more; a count of 64 bits that is at its top stays there
 unfoldable pub more : ℕ → ℕ
@@ -33,7 +33,8 @@ reading_at scan fault state =
     record {
       scan = scan;
       lines = state.lines;
-      run = state.run;
+      inside = state.inside;
+      locks = state.locks;
       runs = state.runs;
       refused = state.refused;
       fault = fault;
@@ -43,13 +44,14 @@ reading_at scan fault state =
 unfoldable pub faulty : Fault → Gather → Gather
 faulty fault state = reading_at start_scan (Some fault) state
 
--- one line more: the run that has begun, with its H lines so far, the whole runs, the refused ones
-abbrev pub line_read : Option ℕ → ℕ → ℕ → Gather → Gather
-line_read run runs refused state =
+-- one line more: whether a run has begun, its H lines so far, the whole runs, the refused ones
+abbrev pub line_read : Bool → ℕ → ℕ → ℕ → Gather → Gather
+line_read inside locks runs refused state =
     record {
       scan = start_scan;
       lines = more state.lines;
-      run = run;
+      inside = inside;
+      locks = locks;
       runs = runs;
       refused = refused;
       fault = state.fault;
@@ -57,22 +59,22 @@ line_read run runs refused state =
 
 -- a line of an action or an event
 unfoldable pub deed_read : Gather → Gather
-deed_read state = line_read (Some (unwrap_or state.run 0)) state.runs state.refused state
+deed_read state = line_read true state.locks state.runs state.refused state
 
 -- an H line
 unfoldable pub lock_read : Gather → Gather
-lock_read state = line_read (Some (more (unwrap_or state.run 0))) state.runs state.refused state
+lock_read state = line_read true (more state.locks) state.runs state.refused state
 
 -- an E or C line: the run is whole
 unfoldable pub one_run_more : ℕ → ℕ
 one_run_more runs = cond (ltb runs rows_kept) (runs + 1) runs
 
 unfoldable pub last_read : Gather → Gather
-last_read state = line_read None (one_run_more state.runs) state.refused state
+last_read state = line_read false 0 (one_run_more state.runs) state.refused state
 
 -- a Q line: the run was refused, and is left out
 unfoldable pub refusal_read : Gather → Gather
-refusal_read state = line_read state.run state.runs (more state.refused) state
+refusal_read state = line_read state.inside state.locks state.runs (more state.refused) state
 
 -- the first of a line's numbers: an H line's lock
 unfoldable pub first_of : Scan → ℕ
@@ -85,11 +87,10 @@ is_next_lock lock locks = eqb lock locks && ltb lock (2 ^ 64 - 1)
 -- an action or an event stands before the H lines, a Q line alone
 unfoldable pub after_line : Option LineKind → Scan → Gather → Gather
 after_line None scan state = faulty NoLine state
-after_line (Some Deed) scan state = cond (eqb (unwrap_or state.run 0) 0) (deed_read state) (faulty DeedBehindLock state)
-after_line (Some Lock) scan state =
-    cond (is_next_lock (first_of scan) (unwrap_or state.run 0)) (lock_read state) (faulty LockOutOfOrder state)
+after_line (Some Deed) scan state = cond (eqb state.locks 0) (deed_read state) (faulty DeedBehindLock state)
+after_line (Some Lock) scan state = cond (is_next_lock (first_of scan) state.locks) (lock_read state) (faulty LockOutOfOrder state)
 after_line (Some Last) scan state = last_read state
-after_line (Some Refusal) scan state = cond (is_some state.run) (faulty RefusalInside state) (refusal_read state)
+after_line (Some Refusal) scan state = cond state.inside (faulty RefusalInside state) (refusal_read state)
 
 -- inside a line
 unfoldable pub inside_line : Scan → Gather → Gather
@@ -125,8 +126,8 @@ unfoldable pub rows_after_line : Option LineKind → Scan → Gather → List �
 rows_after_line None scan state rows = rows
 rows_after_line (Some Deed) scan state rows = rows
 rows_after_line (Some Lock) scan state rows =
-    cond (is_next_lock (first_of scan) (unwrap_or state.run 0)) (lock_rows scan.numbers state.runs (unwrap_or state.run 0) rows) rows
-rows_after_line (Some Last) scan state rows = last_rows scan.steps state.runs (unwrap_or state.run 0) rows
+    cond (is_next_lock (first_of scan) state.locks) (lock_rows scan.numbers state.runs state.locks rows) rows
+rows_after_line (Some Last) scan state rows = last_rows scan.steps state.runs state.locks rows
 rows_after_line (Some Refusal) scan state rows = rows
 
 unfoldable pub rows_after_part : Part → Scan → Gather → List ℕ → List ℕ
@@ -181,7 +182,7 @@ end_fault start inside = cond start (cond inside (Some NoLastLine) None) (Some N
 
 unfoldable pub fault_of : Gather → Option Fault
 fault_of state =
-    cond (is_fine state.fault) (end_fault (at_line_start state.scan.part (is_some state.scan.number)) (is_some state.run)) state.fault
+    cond (is_fine state.fault) (end_fault (at_line_start state.scan.part state.scan.begun) state.inside) state.fault
 
 -- the line that the reading is at, by its number from 1
 unfoldable pub line_number : Gather → ℕ

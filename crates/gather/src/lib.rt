@@ -7,14 +7,14 @@
 mod placing;
 mod standing;
 
-ghost use Rattle.std.specs.Prelude.{◌≡◌, is_some};
+ghost use Rattle.std.specs.Prelude.{◌≡◌};
 ghost use Rattle.sums.specs.Sheet.{sheet_told, making};
 ghost use Rattle.gather.specs.Gathering.{start_gather, is_fine, after_byte, rows_after_byte, after_all, rows_after_all, at_line_start, fault_of, line_number, whole_rows};
 
 use linereader::{Part, Scan};
 pub use standing::{after_part, more};
 use std::fmt;
-use sums::{RUN_WIDTH, Sheet, SheetRefusal};
+use sums::{MadeSheet, RUN_WIDTH};
 
 // One row more than a sheet takes.
 pub const ROWS_KEPT: u64 = 401;
@@ -44,13 +44,15 @@ impl fmt::Display for Fault {
     }
 }
 
-// How the gathering stands: what is read of the line at hand, the lines before it, the H lines of the run at hand if one has begun, the whole
-// runs (at most 401), the refused ones, and the first fault.
+// How the gathering stands: what is read of the line at hand, the lines before it, whether a run has begun, its H lines so far, the whole runs (at
+// most 401), the refused ones, and the first fault. `inside` and `locks` are a flag and a number, and no Option: `gather_text` and the functions beside it
+// are promised of every state, also of one with H lines counted and no run begun.
 #[derive(Clone, Copy, Debug, PartialEq, Eq)]
 pub struct Gather {
     pub scan: Scan,
     pub lines: u64,
-    pub run: Option<u64>,
+    pub inside: bool,
+    pub locks: u64,
     pub runs: u64,
     pub refused: u64,
     pub fault: Option<Fault>,
@@ -63,7 +65,8 @@ pub fn start_gather() -> Gather
     Gather {
         scan: linereader::start_scan(),
         lines: 0,
-        run: None,
+        inside: false,
+        locks: 0,
         runs: 0,
         refused: 0,
         fault: None,
@@ -105,9 +108,9 @@ pub fn gather_text(start: Gather, text: &[u8], rows: &mut [u64]) -> Gather
 
 // Whether the reading is at the start of a line.
 fn at_line_start(scan: Scan) -> bool
-    ensures { result ≡ at_line_start scan.part (is_some scan.number) }
+    ensures { result ≡ at_line_start scan.part scan.begun }
 {
-    matches!(scan.part, Part::Steps) && scan.number.is_none()
+    matches!(scan.part, Part::Steps) && !scan.begun
 }
 
 // What is wrong with the whole text.
@@ -120,7 +123,7 @@ pub fn fault_of(state: Gather) -> Option<Fault>
     if !at_line_start(state.scan) {
         return Some(Fault::NoNewline);
     }
-    if state.run.is_some() {
+    if state.inside {
         return Some(Fault::NoLastLine);
     }
     None
@@ -133,8 +136,8 @@ pub fn line_number(state: Gather) -> u64
     more(state.lines)
 }
 
-// The sheet of the whole runs, or why there is none.
-pub fn sheet_of(state: Gather, rows: &[u64]) -> Result<Sheet, SheetRefusal>
+// The sheet of the whole runs.
+pub fn sheet_of(state: Gather, rows: &[u64]) -> MadeSheet
     ensures { sheet_told result ≡ making (whole_rows state rows.now) }
 {
     let kept = state.runs.min(ROWS_KEPT) as usize * RUN_WIDTH;

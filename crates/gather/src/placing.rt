@@ -48,9 +48,9 @@ fn put_line(scan: Scan, state: Gather, rows: &mut [u64])
 {
     match linereader::kind_of(scan.letter) {
         Some(LineKind::Lock) if state.is_next_lock(scan.numbers[0]) => {
-            put_lock(scan.numbers, state.runs, state.locks_had(), rows)
+            put_lock(scan.numbers, state.runs, state.locks, rows)
         }
-        Some(LineKind::Last) => put_last(scan.steps, state.runs, state.locks_had(), rows),
+        Some(LineKind::Last) => put_last(scan.steps, state.runs, state.locks, rows),
         _ => {}
     }
 }

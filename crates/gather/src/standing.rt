@@ -1,7 +1,7 @@
 // How the gathering stands after a line, and inside one.
 #![tactic(auto, unfolding(crate::specs::Gathering::more, crate::specs::Gathering::faulty, crate::specs::Gathering::deed_read, crate::specs::Gathering::lock_read, crate::specs::Gathering::one_run_more, crate::specs::Gathering::last_read, crate::specs::Gathering::refusal_read, crate::specs::Gathering::first_of, crate::specs::Gathering::is_next_lock, crate::specs::Gathering::after_line, crate::specs::Gathering::inside_line, crate::specs::Gathering::after_part))]
 
-ghost use Rattle.std.specs.Prelude.{◌≡◌, Some, unwrap_or};
+ghost use Rattle.std.specs.Prelude.{◌≡◌};
 ghost use Rattle.linereader.specs.Reading.{kind_of};
 ghost use Rattle.gather.specs.Gathering.{more, faulty, line_read, one_run_more, is_next_lock, after_line, after_part};
 
@@ -23,18 +23,11 @@ fn one_run_more(runs: u64) -> u64
 }
 
 impl Gather {
-    // How many H lines the run at hand has had.
-    pub(crate) fn locks_had(self) -> u64
-        ensures { result ≡ unwrap_or self.run 0 }
-    {
-        self.run.unwrap_or(0)
-    }
-
     // Whether an H line is the next lock's.
     pub(crate) fn is_next_lock(self, lock: u64) -> bool
-        ensures { result ≡ is_next_lock lock (unwrap_or self.run 0) }
+        ensures { result ≡ is_next_lock lock self.locks }
     {
-        lock == self.locks_had() && lock < u64::MAX
+        lock == self.locks && lock < u64::MAX
     }
 
     // The text is no run: the rest stays as it stands before this line.
@@ -50,7 +43,7 @@ impl Gather {
 
     // One line more.
     fn line_read(self) -> Gather
-        ensures { result ≡ line_read self.run self.runs self.refused self }
+        ensures { result ≡ line_read self.inside self.locks self.runs self.refused self }
     {
         Gather {
             scan: linereader::start_scan(),
@@ -66,22 +59,24 @@ impl Gather {
         let read = self.line_read();
         match linereader::kind_of(scan.letter) {
             None => self.faulty(Fault::NoLine),
-            Some(LineKind::Deed) if self.locks_had() == 0 => Gather {
-                run: Some(0),
+            Some(LineKind::Deed) if self.locks == 0 => Gather {
+                inside: true,
                 ..read
             },
             Some(LineKind::Deed) => self.faulty(Fault::DeedBehindLock),
             Some(LineKind::Lock) if self.is_next_lock(scan.numbers[0]) => Gather {
-                run: Some(more(self.locks_had())),
+                inside: true,
+                locks: more(self.locks),
                 ..read
             },
             Some(LineKind::Lock) => self.faulty(Fault::LockOutOfOrder),
             Some(LineKind::Last) => Gather {
-                run: None,
+                inside: false,
+                locks: 0,
                 runs: one_run_more(self.runs),
                 ..read
             },
-            Some(LineKind::Refusal) if self.run.is_some() => self.faulty(Fault::RefusalInside),
+            Some(LineKind::Refusal) if self.inside => self.faulty(Fault::RefusalInside),
             Some(LineKind::Refusal) => Gather {
                 refused: more(self.refused),
                 ..read

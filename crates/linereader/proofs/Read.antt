@@ -9,7 +9,6 @@ use lib.Dec.{eqb, ltb, lit<, lit≤}
 use lib.ListN.{length, get_or, set, take, length-set, length-take}
 use lib.Seq.{get_or-set_same, take-set-le}
 use borrow.Author.Tests.{eqb-true, eqb-false, ltb-true}
-use Rattle.std.specs.Prelude.{Option, Some, None, is_some, unwrap_or}
 use Rattle.lists.proofs.Laws.{and_left, and_right}
 use Rattle.lists.proofs.Places.{place_set}
 use Rattle.lists.proofs.Tests.{by_test}
@@ -25,15 +24,15 @@ use Rattle.linereader.proofs.Numbers.{Next, next_digit}
 -- ---- the text that has been read
 
 -- the digits of the number at hand
-abbrev pub shown : Option ℕ → List ℕ
-shown None = []
-shown (Some number) = decimal number
+abbrev pub shown : Bool → ℕ → List ℕ
+shown true number = decimal number
+shown false number = []
 
 abbrev pub read_in : Part → Scan → List ℕ
-read_in Steps s = shown s.number
+read_in Steps s = shown s.begun s.number
 read_in Letter s = decimal s.steps ++ (32 ∷ [])
 read_in Space s = decimal s.steps ++ (32 ∷ s.letter ∷ [])
-read_in Numbers s = decimal s.steps ++ (32 ∷ s.letter ∷ []) ++ spaced (take s.count s.numbers) ++ (32 ∷ shown s.number)
+read_in Numbers s = decimal s.steps ++ (32 ∷ s.letter ∷ []) ++ spaced (take s.count s.numbers) ++ (32 ∷ shown s.begun s.number)
 read_in Whole s = line s.steps s.letter (take s.count s.numbers)
 read_in Wrong s = []
 
@@ -41,14 +40,15 @@ read_in Wrong s = []
 
 abbrev pub Placed : Part → Scan → Type 0
 Placed Steps s = s.count ≡ 0
-Placed Letter s = (s.count ≡ 0) × (s.number ≡ None)
-Placed Space s = (s.count ≡ 0) × (s.number ≡ None) × (is_kind (kind_of s.letter) ≡ true)
+Placed Letter s = (s.count ≡ 0) × (s.begun ≡ false)
+Placed Space s = (s.count ≡ 0) × (s.begun ≡ false) × (is_kind (kind_of s.letter) ≡ true)
 Placed Numbers s = (s.count < numbers_behind s.letter) × (is_kind (kind_of s.letter) ≡ true)
 Placed Whole s = (s.count ≡ numbers_behind s.letter) × (is_kind (kind_of s.letter) ≡ true)
 Placed Wrong s = Unit {0}
 
 pub record Holds (part : Part) (s : Scan) : Type 0 where
-  pub small : unwrap_or s.number 0 < 2 ^ 64
+  pub fresh : s.begun ≡ false → s.number ≡ 0
+  pub small : s.number < 2 ^ 64
   pub steps_small : s.steps < 2 ^ 64
   pub numbers_small : (place : ℕ) → get_or s.numbers place 0 < 2 ^ 64
   pub long : length s.numbers ≡ 4
@@ -64,6 +64,7 @@ pub at_start_lem : Holds Steps start_scan
 unfolding start_scan
 at_start_lem =
     record {
+      fresh = λ e. refl;
       small = lit< tt;
       steps_small = lit< tt;
       numbers_small = λ place. none place;
@@ -97,26 +98,29 @@ first-digit byte next =
     let same : 48 + (0 * 10 + (byte - 48)) ≡ byte = omega (arith, next.at_least, next.at_most) in
     decimal_one one ∙ ap (λ (n : ℕ). n ∷ []) same
 
-not_zero : (number byte : ℕ) → is_next_digit (Some number) byte ≡ true → number ≡ 0 → ⊥
+not_zero : (number byte : ℕ) → is_next_digit true number byte ≡ true → number ≡ 0 → ⊥
 unfolding is_next_digit
 not_zero number byte e z =
     let test : not (eqb number 0) ≡ true = and_right (is_digit byte) _ (and_left (is_digit byte && not (eqb number 0)) _ e) in
     true≢false (sym test ∙ ap (λ (n : ℕ). not (eqb n 0)) z)
 
-pub digit-shown : (number : Option ℕ) (byte : ℕ) → is_next_digit number byte ≡ true
-    → decimal (with_digit (unwrap_or number 0) byte) ≡ shown number ++ (byte ∷ [])
-digit-shown None byte e = first-digit byte (next_digit None byte e)
-digit-shown (Some number) byte e = more-digits number byte (next_digit (Some number) byte e) (not_zero number byte e)
+pub digit-shown : (begun : Bool) (number byte : ℕ) → (begun ≡ false → number ≡ 0) → is_next_digit begun number byte ≡ true
+    → decimal (with_digit number byte) ≡ shown begun number ++ (byte ∷ [])
+digit-shown true number byte fresh e = more-digits number byte (next_digit true number byte e) (not_zero number byte e)
+digit-shown false number byte fresh e =
+    let z = fresh refl in
+    ap (λ (n : ℕ). decimal (with_digit n byte)) z ∙ first-digit byte (subst (λ (n : ℕ). Next n byte) z (next_digit false number byte e))
 
 -- ---- each part, one byte more
 
 -- a scan with one digit more
-digit_holds : (part : Part) (s : Scan) (byte : ℕ) → is_next_digit s.number byte ≡ true → Holds part s → Placed part (digit_read s byte)
+digit_holds : (part : Part) (s : Scan) (byte : ℕ) → is_next_digit s.begun s.number byte ≡ true → Holds part s → Placed part (digit_read s byte)
     → Holds part (digit_read s byte)
 unfolding digit_read
 digit_holds part s byte e h placed =
     record {
-      small = (next_digit s.number byte e).small;
+      fresh = λ f. absurd (true≢false f);
+      small = (next_digit s.begun s.number byte e).small;
       steps_small = h.steps_small;
       numbers_small = h.numbers_small;
       long = h.long;
@@ -126,25 +130,26 @@ digit_holds part s byte e h placed =
 steps_after : (s : Scan) (byte : ℕ) → s.part ≡ Steps → Holds Steps s → After (read_in Steps s ++ (byte ∷ [])) (on_steps s byte)
 unfolding on_steps digit_read steps_read wrong
 steps_after s byte p h =
-    by_test (After (read_in Steps s ++ (byte ∷ []))) (is_next_digit s.number byte)
+    by_test (After (read_in Steps s ++ (byte ∷ []))) (is_next_digit s.begun s.number byte)
     (λ e. on Steps p
     (digit_holds Steps s byte e h h.placed)
-    (digit-shown s.number byte e))
-    (λ e. by_test (After (read_in Steps s ++ (byte ∷ []))) (is_some s.number && eqb byte 32)
+    (digit-shown s.begun s.number byte h.fresh e))
+    (λ e. by_test (After (read_in Steps s ++ (byte ∷ []))) (s.begun && eqb byte 32)
     (λ f. on Letter refl
     (record {
+      fresh = λ g. refl;
       small = lit< tt;
       steps_small = h.small;
       numbers_small = h.numbers_small;
       long = h.long;
       placed = (h.placed, refl);
     })
-    (same s.number (and_left (is_some s.number) _ f) (eqb-true byte 32 (and_right (is_some s.number) _ f))))
+    (same s.begun (and_left s.begun _ f) (eqb-true byte 32 (and_right s.begun _ f))))
     (λ f. no refl))
   where
-    same : (number : Option ℕ) → is_some number ≡ true → byte ≡ 32 → decimal (unwrap_or number 0) ++ (32 ∷ []) ≡ shown number ++ (byte ∷ [])
-    same (Some number) b e = ap (λ (n : ℕ). decimal number ++ (n ∷ [])) (sym e)
-    same None b e = absurd (true≢false (sym b))
+    same : (begun : Bool) → begun ≡ true → byte ≡ 32 → decimal s.number ++ (32 ∷ []) ≡ shown begun s.number ++ (byte ∷ [])
+    same true b e = ap (λ (n : ℕ). decimal s.number ++ (n ∷ [])) (sym e)
+    same false b e = absurd (true≢false (sym b))
 
 letter_after : (s : Scan) (byte : ℕ) → Holds Letter s → After (read_in Letter s ++ (byte ∷ [])) (on_letter s byte)
 unfolding on_letter letter_read wrong
@@ -152,6 +157,7 @@ letter_after s byte h =
     by_test (After (read_in Letter s ++ (byte ∷ []))) (is_kind (kind_of byte))
     (λ e. on Space refl
     (record {
+      fresh = h.fresh;
       small = h.small;
       steps_small = h.steps_small;
       numbers_small = h.numbers_small;
@@ -167,23 +173,24 @@ space_after s byte h =
     by_test (After (read_in Space s ++ (byte ∷ []))) (eqb byte 32)
     (λ e. on Numbers refl
     (record {
+      fresh = h.fresh;
       small = h.small;
       steps_small = h.steps_small;
       numbers_small = h.numbers_small;
       long = h.long;
       placed = (some_numbers s.letter s.count h.placed.0, h.placed.2);
     })
-    (same s.number s.count h.placed.1 h.placed.0 (eqb-true byte 32 e)))
+    (same s.begun s.count h.placed.1 h.placed.0 (eqb-true byte 32 e)))
     (λ e. no refl)
   where
     some_numbers : (letter count : ℕ) → count ≡ 0 → count < numbers_behind letter
     some_numbers letter count z = by_test (λ n. count < n) (eqb letter 72) (λ e. omega (arith, z)) (λ e. omega (arith, z))
 
-    same : (number : Option ℕ) (count : ℕ) → number ≡ None → count ≡ 0 → byte ≡ 32
-        → decimal s.steps ++ (32 ∷ s.letter ∷ []) ++ spaced (take count s.numbers) ++ (32 ∷ shown number)
+    same : (begun : Bool) (count : ℕ) → begun ≡ false → count ≡ 0 → byte ≡ 32
+        → decimal s.steps ++ (32 ∷ s.letter ∷ []) ++ spaced (take count s.numbers) ++ (32 ∷ shown begun s.number)
         ≡ decimal s.steps ++ (32 ∷ s.letter ∷ []) ++ (byte ∷ [])
-    same (Some number) count b z e = cc
-    same None count b z e =
+    same true count b z e = absurd (true≢false b)
+    same false count b z e =
         ap (λ (n : ℕ). decimal s.steps ++ (32 ∷ s.letter ∷ []) ++ spaced (take n s.numbers) ++ (32 ∷ [])) z
         ∙ ap (λ (l : List ℕ). l ++ (32 ∷ [])) (append-nil (decimal s.steps ++ (32 ∷ s.letter ∷ [])))
         ∙ ap (λ (n : ℕ). decimal s.steps ++ (32 ∷ s.letter ∷ []) ++ (n ∷ [])) (sym e)
@@ -198,24 +205,25 @@ numbers_with numbers count number long below =
     ∙ ap (λ (l : List ℕ). spaced l ++ (32 ∷ decimal number)) (take-set-le count numbers count number (omega arith))
 
 -- a number ends: the text with its end
-ended : (front : List ℕ) (numbers : List ℕ) (count byte end : ℕ) (number : Option ℕ) → is_some number ≡ true → byte ≡ end → length numbers ≡ 4 → count < 4
-    → front ++ spaced (take (count + 1) (set numbers count (unwrap_or number 0))) ++ (end ∷ [])
-    ≡ front ++ spaced (take count numbers) ++ (32 ∷ shown number) ++ (byte ∷ [])
-ended front numbers count byte end (Some number) b e long below =
+ended : (front : List ℕ) (numbers : List ℕ) (count number byte end : ℕ) (begun : Bool) → begun ≡ true → byte ≡ end → length numbers ≡ 4 → count < 4
+    → front ++ spaced (take (count + 1) (set numbers count number)) ++ (end ∷ [])
+    ≡ front ++ spaced (take count numbers) ++ (32 ∷ shown begun number) ++ (byte ∷ [])
+ended front numbers count number byte end true b e long below =
     ap (λ (l : List ℕ). front ++ l ++ (end ∷ [])) (numbers_with numbers count number long below)
     ∙ ap (λ (l : List ℕ). l ++ (end ∷ [])) (sym (append_assoc front (spaced (take count numbers)) (32 ∷ decimal number)))
     ∙ ap (λ (n : ℕ). front ++ spaced (take count numbers) ++ (32 ∷ decimal number) ++ (n ∷ [])) (sym e)
-ended front numbers count byte end None b e long below = absurd (true≢false (sym b))
+ended front numbers count number byte end false b e long below = absurd (true≢false (sym b))
 
 -- what a scan holds after a number is read
 number_holds : (part : Part) (s : Scan) → Holds Numbers s → Placed part (number_read s) → Holds part (number_read s)
 unfolding number_read
 number_holds part s h placed =
     record {
+      fresh = λ e. refl;
       small = lit< tt;
       steps_small = h.steps_small;
-      numbers_small = λ place. place_set (λ n. n < 2 ^ 64) 0 s.numbers s.count (unwrap_or s.number 0) place h.small (h.numbers_small place);
-      long = length-set s.numbers s.count (unwrap_or s.number 0) ∙ h.long;
+      numbers_small = λ place. place_set (λ n. n < 2 ^ 64) 0 s.numbers s.count s.number place h.small (h.numbers_small place);
+      long = length-set s.numbers s.count s.number ∙ h.long;
       placed = placed;
     }
 
@@ -223,13 +231,13 @@ number_after : (s : Scan) (byte : ℕ) → Holds Numbers s → ends_number s byt
 unfolding ends_number is_last_number number_read line
 number_after s byte h e =
     go (eqb (s.count + 1) (numbers_behind s.letter)) refl
-    (eqb-true byte (cond (is_last_number s) 10 32) (and_right (is_some s.number) _ (and_right (ltb s.count 4) _ e)))
+    (eqb-true byte (cond (is_last_number s) 10 32) (and_right s.begun _ (and_right (ltb s.count 4) _ e)))
   where
     below : s.count < 4
     below = ltb-true _ _ (and_left (ltb s.count 4) _ e)
 
-    has_digit : is_some s.number ≡ true
-    has_digit = and_left (is_some s.number) _ (and_right (ltb s.count 4) _ e)
+    begun : s.begun ≡ true
+    begun = and_left s.begun _ (and_right (ltb s.count 4) _ e)
 
     front : List ℕ
     front = decimal s.steps ++ (32 ∷ s.letter ∷ [])
@@ -239,20 +247,20 @@ number_after s byte h e =
     go true l f =
         on Whole (ap (λ (b : Bool). cond b Whole Numbers) l)
         (number_holds Whole s h (eqb-true _ _ l, h.placed.1))
-        (ended front s.numbers s.count byte 10 s.number has_digit f h.long below)
+        (ended front s.numbers s.count s.number byte 10 s.begun begun f h.long below)
     go false l f =
         on Numbers (ap (λ (b : Bool). cond b Whole Numbers) l)
         (number_holds Numbers s h (omega (arith, h.placed.0, eqb-false (s.count + 1) (numbers_behind s.letter) l), h.placed.1))
-        (ended front s.numbers s.count byte 32 s.number has_digit f h.long below)
+        (ended front s.numbers s.count s.number byte 32 s.begun begun f h.long below)
 
 numbers_after : (s : Scan) (byte : ℕ) → s.part ≡ Numbers → Holds Numbers s → After (read_in Numbers s ++ (byte ∷ [])) (on_numbers s byte)
 unfolding on_numbers digit_read wrong
 numbers_after s byte p h =
-    by_test (After (read_in Numbers s ++ (byte ∷ []))) (is_next_digit s.number byte)
+    by_test (After (read_in Numbers s ++ (byte ∷ []))) (is_next_digit s.begun s.number byte)
     (λ e. on Numbers p
     (digit_holds Numbers s byte e h h.placed)
-    (ap (λ (l : List ℕ). front ++ (32 ∷ l)) (digit-shown s.number byte e)
-    ∙ sym (append_assoc front (32 ∷ shown s.number) (byte ∷ []))))
+    (ap (λ (l : List ℕ). front ++ (32 ∷ l)) (digit-shown s.begun s.number byte h.fresh e)
+    ∙ sym (append_assoc front (32 ∷ shown s.begun s.number) (byte ∷ []))))
     (λ e. by_test (After (read_in Numbers s ++ (byte ∷ []))) (ends_number s byte) (λ f. number_after s byte h f) (λ f. no refl))
   where
     front : List ℕ

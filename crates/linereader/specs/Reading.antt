@@ -1,6 +1,6 @@
 -- A line of the night program, read back byte by byte: steps done, letter, numbers in order, single spaces, newline (01, "The run and its lines";
 -- 02, item 13: four numbers behind an H, two behind any other letter). A number is decimal without leading zeros and below 2 ^ 64.
-use Rattle.std.specs.Prelude.{ℕ, ◌+◌, ◌-◌, ◌*◌, ◌^◌, Bool, true, false, cond, not, ◌&&◌, ◌||◌, List, [], ◌∷◌, Option, Some, None, is_some, unwrap_or, eqb, ltb, leb, replicate, set}
+use Rattle.std.specs.Prelude.{ℕ, ◌+◌, ◌-◌, ◌*◌, ◌^◌, Bool, true, false, cond, not, ◌&&◌, ◌||◌, List, [], ◌∷◌, Option, Some, None, eqb, ltb, leb, replicate, set}
 use Rattle.linereader.specs.declared.LineKind.{LineKind}
 use Rattle.linereader.specs.declared.LineKind.TheVariants.{Deed, Lock, Last, Refusal}
 use Rattle.linereader.specs.declared.Part.{Part}
@@ -39,22 +39,22 @@ is_digit byte = leb 48 byte && leb byte 57
 unfoldable pub with_digit : ℕ → ℕ → ℕ
 with_digit number byte = number * 10 + (byte - 48)
 
--- whether a byte is the next digit of the number at hand, which is none before its first digit: no digit comes behind a leading 0, and the number stays below 2 ^ 64
-unfoldable pub is_next_digit : Option ℕ → ℕ → Bool
-is_next_digit number byte =
-    is_digit byte && not (is_some number && eqb (unwrap_or number 0) 0) && ltb (with_digit (unwrap_or number 0) byte) (2 ^ 64)
+-- whether a byte is the number's next digit: no digit comes behind a leading 0, and the number stays below 2 ^ 64
+unfoldable pub is_next_digit : Bool → ℕ → ℕ → Bool
+is_next_digit begun number byte = is_digit byte && not (begun && eqb number 0) && ltb (with_digit number byte) (2 ^ 64)
 
 -- ---- where the reading stands
 
 -- at the start of a line
 unfoldable pub start_scan : Scan
-start_scan = record { part = Steps; number = None; steps = 0; letter = 0; count = 0; numbers = replicate 4 0 }
+start_scan = record { part = Steps; begun = false; number = 0; steps = 0; letter = 0; count = 0; numbers = replicate 4 0 }
 
 -- the part that comes next, and the letter; the rest as it was
 abbrev pub going_on : Part → ℕ → Scan → Scan
 going_on part letter scan =
     record {
       part = part;
+      begun = scan.begun;
       number = scan.number;
       steps = scan.steps;
       letter = letter;
@@ -71,7 +71,8 @@ unfoldable pub digit_read : Scan → ℕ → Scan
 digit_read scan byte =
     record {
       part = scan.part;
-      number = Some (with_digit (unwrap_or scan.number 0) byte);
+      begun = true;
+      number = with_digit scan.number byte;
       steps = scan.steps;
       letter = scan.letter;
       count = scan.count;
@@ -83,8 +84,9 @@ unfoldable pub steps_read : Scan → Scan
 steps_read scan =
     record {
       part = Letter;
-      number = None;
-      steps = unwrap_or scan.number 0;
+      begun = false;
+      number = 0;
+      steps = scan.number;
       letter = scan.letter;
       count = scan.count;
       numbers = scan.numbers;
@@ -105,23 +107,24 @@ unfoldable pub number_read : Scan → Scan
 number_read scan =
     record {
       part = cond (is_last_number scan) Whole Numbers;
-      number = None;
+      begun = false;
+      number = 0;
       steps = scan.steps;
       letter = scan.letter;
       count = scan.count + 1;
-      numbers = set scan.numbers scan.count (unwrap_or scan.number 0);
+      numbers = set scan.numbers scan.count scan.number;
     }
 
 -- whether a byte ends the number at hand, which has a digit: a newline the last one, a space the others. There are at most four
 unfoldable pub ends_number : Scan → ℕ → Bool
-ends_number scan byte = ltb scan.count 4 && (is_some scan.number && eqb byte (cond (is_last_number scan) 10 32))
+ends_number scan byte = ltb scan.count 4 && (scan.begun && eqb byte (cond (is_last_number scan) 10 32))
 
 -- ---- one byte more
 
 unfoldable pub on_steps : Scan → ℕ → Scan
 on_steps scan byte =
-    cond (is_next_digit scan.number byte) (digit_read scan byte)
-    (cond (is_some scan.number && eqb byte 32) (steps_read scan) (wrong scan))
+    cond (is_next_digit scan.begun scan.number byte) (digit_read scan byte)
+    (cond (scan.begun && eqb byte 32) (steps_read scan) (wrong scan))
 
 unfoldable pub on_letter : Scan → ℕ → Scan
 on_letter scan byte = cond (is_kind (kind_of byte)) (letter_read scan byte) (wrong scan)
@@ -131,7 +134,7 @@ on_space scan byte = cond (eqb byte 32) (space_read scan) (wrong scan)
 
 unfoldable pub on_numbers : Scan → ℕ → Scan
 on_numbers scan byte =
-    cond (is_next_digit scan.number byte) (digit_read scan byte)
+    cond (is_next_digit scan.begun scan.number byte) (digit_read scan byte)
     (cond (ends_number scan byte) (number_read scan) (wrong scan))
 
 -- nothing comes behind a whole line

@@ -30,13 +30,14 @@ pub enum Part {
     Wrong,
 }
 
-// What has been read of a line: the number at hand, if it has a digit yet; the steps, the letter, and so many numbers. They are an array with a count
-// beside it, since the memory is fixed; a scan may be made up with any count, so 4 is asked where it is needed. The letter stays a byte: the promise is of
-// every scan.
+// What has been read of a line: the number at hand, and whether it has a digit yet; the steps, the letter, and so many numbers. They are an array with a
+// count beside it, since the memory is fixed; a scan may be made up with any count, so 4 is asked where it is needed. The letter stays a byte, and `begun`
+// and `number` are a flag and a number, and no Option: `scan_byte` is promised of every scan, also of one with a number and no digit yet.
 #[derive(Clone, Copy, Debug, PartialEq, Eq)]
 pub struct Scan {
     pub part: Part,
-    pub number: Option<u64>,
+    pub begun: bool,
+    pub number: u64,
     pub steps: u64,
     pub letter: u8,
     pub count: u8,
@@ -49,7 +50,8 @@ pub fn start_scan() -> Scan
 {
     Scan {
         part: Part::Steps,
-        number: None,
+        begun: false,
+        number: 0,
         steps: 0,
         letter: 0,
         count: 0,
@@ -72,20 +74,20 @@ impl Scan {
     fn on_steps(self, byte: u8) -> Scan
         ensures { result ≡ on_steps self byte }
     {
-        if let Some(number) = digits::digit_behind(self.number, byte) {
-            return Scan {
-                number: Some(number),
-                ..self
-            };
-        }
-        match self.number {
-            Some(steps) if byte == b' ' => Scan {
-                part: Part::Letter,
-                number: None,
-                steps,
+        match digits::digit_behind(self.begun, self.number, byte) {
+            Some(number) => Scan {
+                begun: true,
+                number,
                 ..self
             },
-            _ => self.wrong(),
+            None if self.begun && byte == b' ' => Scan {
+                part: Part::Letter,
+                begun: false,
+                number: 0,
+                steps: self.number,
+                ..self
+            },
+            None => self.wrong(),
         }
     }
 
@@ -133,13 +135,12 @@ impl Scan {
     }
 
     // One number more is read; the line is whole after the last one.
-    fn number_read(self, number: u64) -> Scan
-        requires count { self.count < 4 }
-        requires number { self.number ≡ Some number }
+    fn number_read(self) -> Scan
+        requires { self.count < 4 }
         ensures { result ≡ number_read self }
     {
         let mut numbers = self.numbers;
-        numbers[usize::from(self.count)] = number;
+        numbers[usize::from(self.count)] = self.number;
         let part = if self.is_last_number() {
             Part::Whole
         } else {
@@ -147,7 +148,8 @@ impl Scan {
         };
         Scan {
             part,
-            number: None,
+            begun: false,
+            number: 0,
             count: self.count + 1,
             numbers,
             ..self
@@ -158,15 +160,14 @@ impl Scan {
     fn on_numbers(self, byte: u8) -> Scan
         ensures { result ≡ on_numbers self byte }
     {
-        if let Some(number) = digits::digit_behind(self.number, byte) {
-            return Scan {
-                number: Some(number),
+        match digits::digit_behind(self.begun, self.number, byte) {
+            Some(number) => Scan {
+                begun: true,
+                number,
                 ..self
-            };
-        }
-        match self.number {
-            Some(number) if self.count < 4 && byte == self.end_byte() => self.number_read(number),
-            _ => self.wrong(),
+            },
+            None if self.count < 4 && self.begun && byte == self.end_byte() => self.number_read(),
+            None => self.wrong(),
         }
     }
 }

@@ -74,9 +74,13 @@ impl States {
         say::events(rt, &stepped.events)
     }
 
-    // Asks for an action likewise.
+    // Asks for an action likewise, by the method of its name.
     fn act(&mut self, rt: &impl Print, action: Action, node: u8, lock: u8) -> Result<()> {
-        let acted = self.now.act(action, node, lock);
+        let acted = match action {
+            Action::Take => self.now.take(node, lock),
+            Action::Release => self.now.release(node, lock),
+            Action::Force => self.now.force(node, lock),
+        };
         self.now = acted.state;
         say::answer(rt, acts::answer_number(acted.answer))
     }

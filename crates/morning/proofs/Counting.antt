@@ -14,40 +14,38 @@ use Rattle.gather.specs.Gathering.{more}
 use Rattle.gather.proofs.Lines.{one_more}
 use Rattle.verdict.specs.declared.Judged.{Judged}
 use Rattle.verdict.specs.Verdicts.{verdict_number, verdict_of}
-use Rattle.morning.specs.declared.AtHand.{AtHand}
 use Rattle.morning.specs.declared.Night.{Night}
 use Rattle.morning.specs.declared.Entry.{Entry}
-use Rattle.morning.specs.Reading.{start_night, naming, counted_at, is_listed, closed_as, closed_by}
+use Rattle.morning.specs.Reading.{start_night, counted_at, is_listed, closed_as, closed_by}
 use Rattle.morning.specs.Theorems.{Schedule, number_of, is_good, count_of, not_good}
 use Rattle.morning.specs.AnyText.{schedules_in, TextCounted}
 use Rattle.morning.proofs.Laws.{verdict_low, good_number_lem}
-use Rattle.morning.proofs.Told.{Book, whole_hand, whole, closed, closings, at_start, all_told}
+use Rattle.morning.proofs.Told.{Book, whole, closed, closings, at_start, all_told}
 
 -- what holds of each of the three ends of a schedule, holds of its end
-closed_cases : (P : Night → Type 0) (j : Judged) (room : ℕ) (hand : AtHand) (night : Night)
-    → (is_listed (verdict_number j.verdict) hand.fits night.listed room ≡ true
+closed_cases : (P : Night → Type 0) (j : Judged) (room : ℕ) (night : Night)
+    → (is_listed (verdict_number j.verdict) night.hand.fits night.listed room ≡ true
     → P (closed_as night.used (night.listed + 1) night.unlisted (counted_at night.counts (verdict_number j.verdict)) night))
     → (ltb (verdict_number j.verdict) 6 ≡ true
-    → P (closed_as hand.start night.listed (more night.unlisted) (counted_at night.counts (verdict_number j.verdict)) night))
+    → P (closed_as night.hand.start night.listed (more night.unlisted) (counted_at night.counts (verdict_number j.verdict)) night))
     → (ltb (verdict_number j.verdict) 6 ≡ false
-    → P (closed_as hand.start night.listed night.unlisted (counted_at night.counts (verdict_number j.verdict)) night))
-    → P (closed_by j room hand night)
+    → P (closed_as night.hand.start night.listed night.unlisted (counted_at night.counts (verdict_number j.verdict)) night))
+    → P (closed_by j room night)
 unfolding closed_by
-closed_cases P j room hand night listed unlisted good =
-    by_test P (is_listed (verdict_number j.verdict) hand.fits night.listed room) listed
+closed_cases P j room night listed unlisted good =
+    by_test P (is_listed (verdict_number j.verdict) night.hand.fits night.listed room) listed
     (λ e. by_test P (ltb (verdict_number j.verdict) 6) unlisted good)
 
 -- ---- the counts
 
 closed_counts : (room name-room : ℕ) (book : Book) (schedule : Schedule)
     → (closed room name-room book schedule).night.counts ≡ counted_at book.night.counts (number_of schedule)
-unfolding closed_as number_of naming
+unfolding closed_as number_of
 closed_counts room name-room book schedule =
     closed_cases
     (λ (night : Night). night.counts ≡ counted_at book.night.counts (verdict_number (verdict_of schedule.text).verdict))
     (verdict_of schedule.text)
     room
-    (whole_hand name-room book schedule)
     (whole name-room book schedule)
     (λ e. refl)
     (λ e. refl)
@@ -103,13 +101,12 @@ record OneMore (before after : Night) (bad : Bool) : Type 0 where
 
 closed_more : (room name-room : ℕ) (book : Book) (schedule : Schedule) → book.night.unlisted < 2 ^ 64 - 1
     → OneMore book.night (closed room name-room book schedule).night (ltb (number_of schedule) 6)
-unfolding closed_as number_of naming is_listed
+unfolding closed_as number_of is_listed
 closed_more room name-room book schedule few =
     closed_cases
     (λ (night : Night). OneMore book.night night (ltb (verdict_number (verdict_of schedule.text).verdict) 6))
     (verdict_of schedule.text)
     room
-    (whole_hand name-room book schedule)
     (whole name-room book schedule)
     (λ e. let bad = and_left (ltb (verdict_number (verdict_of schedule.text).verdict) 6) _ e in record { total = rw bad (omega arith); most = omega arith })
     (λ e. let up = one_more book.night.unlisted few in record { total = rw e (omega (arith, up)); most = omega (arith, up) })

@@ -1,23 +1,18 @@
 -- Laws of the rows and of the tests: the numbers of verdicts, and that no row and no byte of a name is added or lost.
 use Prim.Native.Nat.{ℕ, ◌<◌}
-use mathlib.Core.Path.{◌≡◌, refl, ap₂}
-use mathlib.Core.Bool.{not}
+use mathlib.Core.Path.{◌≡◌, refl}
+use mathlib.Core.Bool.{Bool, true, false, not}
 use mathlib.Core.List.{List}
 use native.Mathlib.Omega.{arith}
 use lib.Dec.{eqb, ltb}
 use lib.ListN.{length, length-set}
-use denote.Enum.Bare.{sameb}
-use denote.Enum.Declared.{tag_of}
-use Rattle.std.specs.Prelude.{Option, Some, None}
 use Rattle.lists.proofs.Tests.{by_test}
-use Rattle.verdict.specs.contracts.Verdict.{the_type}
 use Rattle.verdict.specs.declared.Verdict.{Verdict}
 use Rattle.verdict.specs.declared.Verdict.TheVariants.{Incomplete, Refused, RefusedActions, Cut, LocksLost, TakesFailed, Good}
 use Rattle.verdict.specs.declared.Judged.{Judged}
 use Rattle.verdict.specs.Verdicts.{verdict_number, judged}
 use Rattle.morning.specs.declared.Place.{Place}
 use Rattle.morning.specs.declared.Place.TheVariants.{LineStart, InLine, InName}
-use Rattle.morning.specs.declared.AtHand.{AtHand}
 use Rattle.morning.specs.declared.Night.{Night}
 use Rattle.morning.specs.declared.Entry.{Entry}
 use Rattle.morning.specs.Reading.{shown, is_listed, row_put, rows_closed_by, rows_closing, rows_on_line_start, rows_after_byte_in, rows_after_byte, names_after_name, names_after_byte_in, names_after_byte}
@@ -44,40 +39,26 @@ good_number_lem LocksLost = refl
 good_number_lem TakesFailed = refl
 good_number_lem Good = refl
 
--- verdicts are the same where their numbers are
-number_is_tag : (verdict : Verdict) → tag_of the_type verdict ≡ verdict_number verdict
-unfolding verdict_number
-number_is_tag Incomplete = refl
-number_is_tag Refused = refl
-number_is_tag RefusedActions = refl
-number_is_tag Cut = refl
-number_is_tag LocksLost = refl
-number_is_tag TakesFailed = refl
-number_is_tag Good = refl
-
-pub same_number : (one other : Verdict) → sameb the_type one other ≡ eqb (verdict_number one) (verdict_number other)
-same_number one other = ap₂ eqb (number_is_tag one) (number_is_tag other)
-
 -- ---- no row is added and none is lost
 
-pub row_long : (j : Judged) (hand : AtHand) (night : Night) (rows : List Entry) → length (row_put j hand night rows) ≡ length rows
+pub row_long : (j : Judged) (night : Night) (rows : List Entry) → length (row_put j night rows) ≡ length rows
 unfolding row_put
-row_long j hand night rows = length-set rows night.listed _
+row_long j night rows = length-set rows night.listed _
 
-closed_long : (j : Judged) (hand : AtHand) (night : Night) (rows : List Entry) → length (rows_closed_by j hand night rows) ≡ length rows
+closed_long : (j : Judged) (night : Night) (rows : List Entry) → length (rows_closed_by j night rows) ≡ length rows
 unfolding rows_closed_by
-closed_long j hand night rows =
-    by_test (λ (l : List Entry). length l ≡ length rows) (is_listed (verdict_number j.verdict) hand.fits night.listed (length rows))
-    (λ e. row_long j hand night rows) (λ e. refl)
+closed_long j night rows =
+    by_test (λ (l : List Entry). length l ≡ length rows) (is_listed (verdict_number j.verdict) night.hand.fits night.listed (length rows))
+    (λ e. row_long j night rows) (λ e. refl)
 
-closing_long : (hand : Option AtHand) (night : Night) (rows : List Entry) → length (rows_closing hand night rows) ≡ length rows
+closing_long : (begun : Bool) (night : Night) (rows : List Entry) → length (rows_closing begun night rows) ≡ length rows
 unfolding rows_closing
-closing_long (Some hand) night rows = closed_long (judged hand.watch) hand night rows
-closing_long None night rows = refl
+closing_long true night rows = closed_long (judged night.hand.watch) night rows
+closing_long false night rows = refl
 
 start_long : (night : Night) (byte : ℕ) (rows : List Entry) → length (rows_on_line_start night byte rows) ≡ length rows
 unfolding rows_on_line_start
-start_long night byte rows = by_test (λ (l : List Entry). length l ≡ length rows) (eqb byte 62) (λ e. closing_long night.hand night rows) (λ e. refl)
+start_long night byte rows = by_test (λ (l : List Entry). length l ≡ length rows) (eqb byte 62) (λ e. closing_long night.begun night rows) (λ e. refl)
 
 place_long : (place : Place) (night : Night) (byte : ℕ) (rows : List Entry) → length (rows_after_byte_in place night byte rows) ≡ length rows
 unfolding rows_after_byte_in

@@ -10,16 +10,15 @@ use lib.Seq.{sets, sets-eq, length-sets, length-take-le, take-take, take-add, ta
 use borrow.Author.Tests.{lt-ltb}
 use Rattle.lists.proofs.Tests.{by_value}
 use Rattle.verdict.specs.declared.Judged.{Judged}
-use Rattle.verdict.specs.Verdicts.{verdict_of}
-use Rattle.morning.specs.declared.AtHand.{AtHand}
+use Rattle.verdict.specs.Verdicts.{verdict_number, verdict_of}
 use Rattle.morning.specs.declared.Night.{Night}
 use Rattle.morning.specs.declared.Entry.{Entry}
-use Rattle.morning.specs.Reading.{start_night, naming, shown, counted_at, has_room, is_listed, closed_as, closed_by, row_put, rows_closed_by}
+use Rattle.morning.specs.Reading.{start_night, shown, counted_at, has_room, is_listed, closed_as, closed_by, row_put, rows_closed_by}
 use Rattle.morning.specs.Order.{no_entry, entry_at}
 use Rattle.morning.specs.Theorems.{Schedule, no_schedule, number_of, night_text, is_good, not_good, longest_name, name_bytes, RowOf, rows_after, names_after, AllAreListed}
 use Rattle.morning.specs.AnyText.{schedules_in, rows_of, names_of, EveryTextIsListed}
 use Rattle.morning.proofs.Laws.{row_long, good_number_lem}
-use Rattle.morning.proofs.Told.{Book, name_end, name_fits, spelled, whole_hand, whole, closed, closings, at_start, all_told}
+use Rattle.morning.proofs.Told.{Book, name_end, name_fits, spelled, whole, closed, closings, at_start, all_told}
 use Rattle.morning.proofs.AnyText.{a_night_is_cut_into_its_schedules}
 
 -- ---- a name that has room
@@ -89,10 +88,10 @@ spelled_read used names name after final h long so kept =
 -- ---- a row
 
 -- the row that is put is the one that is found there
-row_found : (j : Judged) (hand : AtHand) (night : Night) (rows : List Entry) → night.listed < length rows
-    → entry_at (row_put j hand night rows) night.listed ≡ record { verdict = j.verdict; noted = j.noted; start = hand.start; end = night.used }
+row_found : (j : Judged) (night : Night) (rows : List Entry) → night.listed < length rows
+    → entry_at (row_put j night rows) night.listed ≡ record { verdict = verdict_number j.verdict; noted = j.noted; start = night.hand.start; end = night.used }
 unfolding entry_at row_put
-row_found j hand night rows h = get_or-set_same rows night.listed _ no_entry h
+row_found j night rows h = get_or-set_same rows night.listed _ no_entry h
 
 -- rows that are the same up to a place have the same entries before it
 entry_same : (rows final : List Entry) (n k : ℕ) → take n final ≡ take n rows → k < n → entry_at final k ≡ entry_at rows k
@@ -101,9 +100,9 @@ entry_same rows final n k same below =
     sym (get_or-take n final k no_entry below) ∙ ap (λ (l : List Entry). get_or l k no_entry) same ∙ get_or-take n rows k no_entry below
 
 -- a row that is put leaves those before it
-row_before : (j : Judged) (hand : AtHand) (night : Night) (rows : List Entry) → take night.listed (row_put j hand night rows) ≡ take night.listed rows
+row_before : (j : Judged) (night : Night) (rows : List Entry) → take night.listed (row_put j night rows) ≡ take night.listed rows
 unfolding row_put
-row_before j hand night rows = take-set-le night.listed rows night.listed _ (omega arith)
+row_before j night rows = take-set-le night.listed rows night.listed _ (omega arith)
 
 -- ---- one schedule's end, with room
 
@@ -118,7 +117,7 @@ after_good name-room book schedule =
 
 closed_good : (room name-room : ℕ) (book : Book) (schedule : Schedule) → ltb (number_of schedule) 6 ≡ false
     → closed room name-room book schedule ≡ after_good name-room book schedule
-unfolding number_of closed_by rows_closed_by is_listed naming
+unfolding number_of closed_by rows_closed_by is_listed
 closed_good room name-room book schedule e = rw e
 
 -- any other: its row and its name are put
@@ -126,14 +125,14 @@ abbrev after_listed : ℕ → Book → Schedule → Book
 after_listed name-room book schedule =
     record {
       night = closed_as (name_end name-room book.night.used schedule.name) (book.night.listed + 1) book.night.unlisted (counted_at book.night.counts (number_of schedule)) (whole name-room book schedule);
-      rows = row_put (verdict_of schedule.text) (whole_hand name-room book schedule) (whole name-room book schedule) book.rows;
+      rows = row_put (verdict_of schedule.text) (whole name-room book schedule) book.rows;
       names = spelled name-room book.names book.night.used schedule.name;
     }
 
 closed_listed : (room name-room : ℕ) (book : Book) (schedule : Schedule) → ltb (number_of schedule) 6 ≡ true
     → name_fits name-room book.night.used true schedule.name ≡ true → book.night.listed < room → length book.rows ≡ room
     → closed room name-room book schedule ≡ after_listed name-room book schedule
-unfolding number_of closed_by rows_closed_by is_listed has_room naming
+unfolding number_of closed_by rows_closed_by is_listed has_room
 closed_listed room name-room book schedule e fits h long = rw (long, e, fits, lt-ltb book.night.listed room h)
 
 -- ---- all of them
@@ -167,7 +166,7 @@ filled_good name-room book schedule bad final n fits on =
 row_of : (name-room : ℕ) (book : Book) (schedule : Schedule) (bad : List Schedule) (final : Book) → length book.names ≡ name-room
     → book.night.used + length schedule.name ≤ name-room → book.night.listed < length book.rows
     → Filled (after_listed name-room book schedule) bad final → RowOf final.rows final.names book.night.listed schedule
-unfolding closed_as naming
+unfolding closed_as number_of
 row_of name-room book schedule bad final n fits h on =
     let used = book.night.used in
     let name = schedule.name in
@@ -176,8 +175,8 @@ row_of name-room book schedule bad final n fits h on =
     let end : name_end name-room used name ≡ used + length name = name_end_lem name-room used name fits in
     let kept = subst (λ (k : ℕ). take k final.names ≡ take k (spelled name-room book.names used name)) end on.names_kept in
     let found =
-    entry_same (row_put (verdict_of schedule.text) (whole_hand name-room book schedule) (whole name-room book schedule) book.rows) final.rows (listed + 1) listed on.rows_kept_lem (omega arith)
-    ∙ row_found (verdict_of schedule.text) (whole_hand name-room book schedule) (whole name-room book schedule) book.rows h in
+    entry_same (row_put (verdict_of schedule.text) (whole name-room book schedule) book.rows) final.rows (listed + 1) listed on.rows_kept_lem (omega arith)
+    ∙ row_found (verdict_of schedule.text) (whole name-room book schedule) book.rows h in
     let start : (entry_at final.rows listed).start ≡ used = ap (λ (entry : Entry). entry.start) found in
     let finish : (entry_at final.rows listed).end ≡ used + length name = ap (λ (entry : Entry). entry.end) found ∙ end in
     record {
@@ -195,7 +194,7 @@ row_of name-room book schedule bad final n fits h on =
 filled_listed : (name-room : ℕ) (book : Book) (schedule : Schedule) (bad : List Schedule) (final : Book) → length book.names ≡ name-room
     → book.night.used + length schedule.name ≤ name-room → book.night.listed < length book.rows
     → Filled (after_listed name-room book schedule) bad final → Filled book (schedule ∷ bad) final
-unfolding closed_as naming
+unfolding closed_as
 filled_listed name-room book schedule bad final n fits h on =
     let used = book.night.used in
     let name = schedule.name in
@@ -205,10 +204,10 @@ filled_listed name-room book schedule bad final n fits h on =
     record {
       listed = on.listed ∙ omega arith;
       unlisted = on.unlisted;
-      rows_long = on.rows_long ∙ row_long (verdict_of schedule.text) (whole_hand name-room book schedule) (whole name-room book schedule) book.rows;
+      rows_long = on.rows_long ∙ row_long (verdict_of schedule.text) (whole name-room book schedule) book.rows;
       rows_kept_lem = sym (take-take listed (listed + 1) final.rows (omega arith)) ∙ ap (take listed) on.rows_kept_lem
           ∙ take-take listed (listed + 1) _ (omega arith)
-          ∙ row_before (verdict_of schedule.text) (whole_hand name-room book schedule) (whole name-room book schedule) book.rows;
+          ∙ row_before (verdict_of schedule.text) (whole name-room book schedule) book.rows;
       names_long = on.names_long ∙ so.long;
       names_kept = sym (take-take used (name_end name-room used name) final.names (omega (arith, end))) ∙ ap (take used) on.names_kept
           ∙ take-take used (name_end name-room used name) _ (omega (arith, end))
@@ -246,7 +245,7 @@ filled room name-room book (schedule ∷ rest) r n rows-room names-room =
     let end : name_end name-room used name ≡ used + length name = name_end_lem name-room used name fits in
     let good = after_good name-room book schedule in
     let listed = after_listed name-room book schedule in
-    let long = row_long (verdict_of schedule.text) (whole_hand name-room book schedule) (whole name-room book schedule) book.rows in
+    let long = row_long (verdict_of schedule.text) (whole name-room book schedule) book.rows in
     by_value
     (λ b. book.night.listed + length (cond b (not_good rest) (schedule ∷ not_good rest)) ≤ room
     → book.night.used + name_bytes (cond b (not_good rest) (schedule ∷ not_good rest)) + longest_name (schedule ∷ rest) ≤ name-room

@@ -1,9 +1,9 @@
 -- The next place of a verdict, as the library finds it.
-use Prim.Native.Nat.{ℕ, ◌+◌, ◌-◌, ◌≤◌, ◌<◌}
+use Prim.Native.Nat.{ℕ, zero, suc, ◌+◌, ◌-◌, ◌≤◌, ◌<◌}
 use mathlib.Core.Path.{◌≡◌, refl, sym, ap, ap₂, subst, ◌∙◌}
 use mathlib.Core.Bool.{Bool, true, false, cond, not, ◌&&◌}
 use mathlib.Core.Logic.{⊎_elim}
-use mathlib.Core.List.{List, [], ◌∷◌}
+use mathlib.Core.List.{List}
 use native.Mathlib.Omega.{arith}
 use lib.Dec.{ltb, leb}
 use lib.ListN.{length, get_or, take, drop, length-take, length-drop}
@@ -16,24 +16,19 @@ use Rattle.std.specs.List.{position_or_len}
 use Rattle.std.proofs.lemmas.List.{drop-take}
 use Rattle.std.proofs.lemmas.List.Sums.{fails_before_first, passes_at_first, prefix_len-le-length}
 use Rattle.lists.proofs.First.{first_is}
-use denote.Enum.Declared.{tag_of}
-use Rattle.verdict.specs.contracts.Verdict.{the_type}
-use Rattle.verdict.specs.declared.Verdict.{Verdict}
-use Rattle.verdict.specs.declared.Verdict.TheVariants.{Incomplete, Refused, RefusedActions, Cut, LocksLost, TakesFailed, Good}
-use Rattle.verdict.specs.Verdicts.{verdict_number}
 use Rattle.morning.specs.declared.Cursor.{Cursor}
 use Rattle.morning.specs.declared.Entry.{Entry}
-use Rattle.morning.specs.Order.{no_entry, entry_at, is_with, has_verdict, next_place, worst_first, from_verdict, seeking, seek}
+use Rattle.morning.specs.Order.{no_entry, entry_at, is_with, has_verdict, next_place, seeking, seek}
 
 -- a place is passed: it stands before the one to begin at, or its row has another verdict
-abbrev pub passed : List Entry → Verdict → ℕ → ℕ → Bool
+abbrev pub passed : List Entry → ℕ → ℕ → ℕ → Bool
 passed rows verdict from place = not (leb from place && has_verdict rows verdict place)
 
 -- the rows from a place on
 abbrev pub rows_from : List Entry → ℕ → ℕ → List Entry
 rows_from rows places from = take (places - from) (drop from rows)
 
-module _ (rows : List Entry) (places : ℕ) (verdict : Verdict) (from : ℕ) (begun : from ≤ places) (within : places ≤ length rows) where
+module _ (rows : List Entry) (places verdict from : ℕ) (begun : from ≤ places) (within : places ≤ length rows) where
   abbrev first : ℕ
   first = position_or_len (is_with verdict) (rows_from rows places from)
 
@@ -82,31 +77,57 @@ module _ (rows : List Entry) (places : ℕ) (verdict : Verdict) (from : ℕ) (be
       (sym (le-ltb (from + first) places (omega (arith, ltb-false first (length (rows_from rows places from)) t, long, begun)))))
       ∙ ap (λ (n : ℕ). cond (ltb n places) (Some n) None) (sym next_is)
 
--- ---- the first of some verdicts, by its next place
+-- ---- from one verdict to the next better one
 
--- it is found
-pub seeking_here : (rows : List Entry) (places : ℕ) (verdict : Verdict) (better : List Verdict) (from : ℕ) {next : Option ℕ} {place : ℕ}
+seek-some : (rows : List Entry) (places verdict from : ℕ) → verdict < 6
+    → seek rows places verdict from
+    ≡ cond (ltb (next_place rows places verdict from) places) (Some (record { verdict = verdict; place = next_place rows places verdict from }))
+    (seek rows places (verdict + 1) 0)
+unfolding seek seeking
+seek-some rows places verdict from h =
+    let e : 6 - verdict ≡ suc (6 - (verdict + 1)) = omega arith in
+    ap (λ (n : ℕ). seeking rows places n verdict from) e
+
+-- one is found
+pub seek_here : (rows : List Entry) (places verdict from : ℕ) → verdict < 6 → next_place rows places verdict from < places
+    → seek rows places verdict from ≡ Some (record { verdict = verdict; place = next_place rows places verdict from })
+seek_here rows places verdict from h found = rw (seek-some rows places verdict from h, lt-ltb _ _ found)
+
+-- none is found, and the next better verdict is sought
+pub seek_on : (rows : List Entry) (places verdict from : ℕ) → verdict < 6 → places ≤ next_place rows places verdict from
+    → seek rows places verdict from ≡ seek rows places (verdict + 1) 0
+seek_on rows places verdict from h none = rw (seek-some rows places verdict from h, le-ltb _ _ none)
+
+-- no verdict is left
+pub seek_none : (rows : List Entry) (places verdict from : ℕ) → 6 ≤ verdict → seek rows places verdict from ≡ None
+unfolding seek seeking
+seek_none rows places verdict from h =
+    let e : 6 - verdict ≡ zero = omega arith in
+    ap (λ (n : ℕ). seeking rows places n verdict from) e
+
+-- the first two, by what is found for the next place
+pub seek_found : (rows : List Entry) (places verdict from : ℕ) {next : Option ℕ} {place : ℕ} → verdict < 6
     → next ≡ cond (ltb (next_place rows places verdict from) places) (Some (next_place rows places verdict from)) None → next ≡ Some place
-    → Some (record { verdict = verdict; place = place }) ≡ seeking rows places (verdict ∷ better) from
-unfolding seeking
-seeking_here rows places verdict better from {place = place} e f =
+    → Some (record { verdict = verdict; place = place }) ≡ seek rows places verdict from
+seek_found rows places verdict from {place = place} h e f =
     let both = cond_some (ltb (next_place rows places verdict from) places) (next_place rows places verdict from) place (sym e ∙ f) in
     ap (λ (p : ℕ). Some (record { verdict = verdict; place = p })) (sym both.1)
-    ∙ sym (ap (λ (b : Bool). cond b (Some (record { verdict = verdict; place = next_place rows places verdict from })) (seeking rows places better 0)) both.0)
+    ∙ sym (ap (λ (b : Bool). cond b (Some (record { verdict = verdict; place = next_place rows places verdict from })) (seek rows places (verdict + 1) 0)) both.0)
+    ∙ sym (seek-some rows places verdict from h)
 
--- it is not, and the others are sought
-pub seeking_on : (rows : List Entry) (places : ℕ) (verdict : Verdict) (better : List Verdict) (from : ℕ) {next : Option ℕ}
-    → next ≡ cond (ltb (next_place rows places verdict from) places) (Some (next_place rows places verdict from)) None → next ≡ None
-    → seeking rows places better 0 ≡ seeking rows places (verdict ∷ better) from
-unfolding seeking
-seeking_on rows places verdict better from e f =
-    by_value
+pub seek_missed : (rows : List Entry) (places verdict from : ℕ) {next : Option ℕ} {first : ℕ} → verdict < 6
+    → next ≡ cond (ltb (next_place rows places verdict from) places) (Some (next_place rows places verdict from)) None → next ≡ None → first ≡ 0
+    → seek rows places (verdict + 1) first ≡ seek rows places verdict from
+seek_missed rows places verdict from h e f zeroth =
+    ap (seek rows places (verdict + 1)) zeroth
+    ∙ by_value
     (λ b. cond b (Some (next_place rows places verdict from)) None ≡ None
-    → seeking rows places better 0 ≡ cond b (Some (record { verdict = verdict; place = next_place rows places verdict from })) (seeking rows places better 0))
+    → seek rows places (verdict + 1) 0 ≡ cond b (Some (record { verdict = verdict; place = next_place rows places verdict from })) (seek rows places (verdict + 1) 0))
     (ltb (next_place rows places verdict from) places)
     (λ t g. cc)
     (λ t g. refl)
     (sym e ∙ f)
+    ∙ sym (seek-some rows places verdict from h)
 
 -- ---- rows that are cut behind their places
 
@@ -116,40 +137,28 @@ cut_from rows places from h =
     ap (take (places - from)) (ap (λ (n : ℕ). drop from (take n rows)) (sym e) ∙ drop-take from (places - from) rows)
     ∙ take-take (places - from) (places - from) (drop from rows) (omega arith)
 
-next_cut : (rows : List Entry) (places : ℕ) (verdict : Verdict) (from : ℕ) → from ≤ places → places ≤ length rows
+next_cut : (rows : List Entry) (places verdict from : ℕ) → from ≤ places → places ≤ length rows
     → next_place (take places rows) places verdict from ≡ next_place rows places verdict from
 next_cut rows places verdict from begun within =
     next_is (take places rows) places verdict from begun (omega (arith, length-take places rows, within))
     ∙ ap (λ (l : List Entry). from + position_or_len (is_with verdict) l) (cut_from rows places from begun)
     ∙ sym (next_is rows places verdict from begun within)
 
-seeking_cut : (rows : List Entry) (places : ℕ) (verdicts : List Verdict) (from : ℕ) → from ≤ places → places ≤ length rows
-    → seeking (take places rows) places verdicts from ≡ seeking rows places verdicts from
+seeking_cut : (rows : List Entry) (places better verdict from : ℕ) → from ≤ places → places ≤ length rows
+    → seeking (take places rows) places better verdict from ≡ seeking rows places better verdict from
 unfolding seeking
-seeking_cut rows places [] from begun within = refl
-seeking_cut rows places (verdict ∷ better) from begun within =
+seeking_cut rows places zero verdict from begun within = refl
+seeking_cut rows places (suc better) verdict from begun within =
     ap₂ (λ (n : ℕ) (later : Option Cursor). cond (ltb n places) (Some (record { verdict = verdict; place = n })) later)
     (next_cut rows places verdict from begun within)
-    (seeking_cut rows places better 0 (omega arith) within)
+    (seeking_cut rows places better (verdict + 1) 0 (omega arith) within)
 
 -- what is sought in the cut rows is what is sought
-pub seek_cut : (rows : List Entry) (places : ℕ) (verdict : Verdict) (from : ℕ) {cut : List Entry} → cut ≡ take places rows → from ≤ places → places ≤ length rows
+pub seek_cut : (rows : List Entry) (places verdict from : ℕ) {cut : List Entry} → cut ≡ take places rows → from ≤ places → places ≤ length rows
     → seek cut (length cut) verdict from ≡ seek rows places verdict from
 unfolding seek
 seek_cut rows places verdict from e begun within =
     let long : length (take places rows) ≡ places = omega (arith, length-take places rows, within) in
-    ap (λ (l : List Entry). seeking l (length l) (from_verdict verdict) from) e
-    ∙ ap (λ (n : ℕ). seeking (take places rows) n (from_verdict verdict) from) long
-    ∙ seeking_cut rows places (from_verdict verdict) from begun within
-
--- ---- the verdicts from one on, as a part of the array
-
-pub part_from : (verdict : Verdict) → take (6 - tag_of the_type verdict) (drop (tag_of the_type verdict) worst_first) ≡ from_verdict verdict
-unfolding worst_first from_verdict verdict_number
-part_from Incomplete = refl
-part_from Refused = refl
-part_from RefusedActions = refl
-part_from Cut = refl
-part_from LocksLost = refl
-part_from TakesFailed = refl
-part_from Good = refl
+    ap (λ (l : List Entry). seeking l (length l) (6 - verdict) verdict from) e
+    ∙ ap (λ (n : ℕ). seeking (take places rows) n (6 - verdict) verdict from) long
+    ∙ seeking_cut rows places (6 - verdict) verdict from begun within

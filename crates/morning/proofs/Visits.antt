@@ -6,38 +6,35 @@ use mathlib.Core.Logic.{⊎_elim}
 use mathlib.Core.List.{List, [], ◌∷◌, ◌++◌}
 use native.Mathlib.Nat.{eq-or-lt_of_le}
 use native.Mathlib.Omega.{arith}
-use lib.Dec.{eqb, ltb, leb}
+use lib.Dec.{eqb, leb}
 use lib.ListN.{length, length-append}
-use borrow.Author.Tests.{lt-ltb, le-ltb, le-leb, lt-leb, leb-true, not-true, not-false}
-use Rattle.std.specs.Prelude.{Some}
+use borrow.Author.Tests.{ne_eqb, eqb-true, lt-ltb, le-leb, lt-leb, leb-true, not-true, not-false}
+use Rattle.std.specs.Prelude.{Option, Some}
 use Rattle.lists.specs.Loops.{every}
 use Rattle.lists.proofs.Laws.{and_left, every-at}
 use Rattle.lists.proofs.Tests.{by_value}
 use Rattle.lists.proofs.First.{FirstAt, first-at, first_none}
-use Rattle.verdict.specs.declared.Verdict.{Verdict}
-use Rattle.verdict.specs.declared.Verdict.TheVariants.{Incomplete, Refused, RefusedActions, Cut, LocksLost, TakesFailed, Good}
-use Rattle.verdict.specs.Verdicts.{verdict_number}
 use Rattle.morning.specs.declared.Cursor.{Cursor}
 use Rattle.morning.specs.declared.Entry.{Entry}
-use Rattle.morning.specs.Order.{entry_at, places_in, is_with, has_verdict, next_place, worst_first, from_verdict, seeking, seek, first_entry, next_entry, entries_of, entries_from, report_order, visited}
+use Rattle.morning.specs.Order.{entry_at, places_in, is_with, has_verdict, next_place, seek, first_entry, next_entry, entries_of, entries_from, report_order, visited}
 use Rattle.morning.specs.Theorems.{WorstFirst}
-use Rattle.morning.proofs.Places.{passed}
+use Rattle.morning.proofs.Places.{passed, seek_here, seek_on, seek_none}
 
 -- ---- the entries of one verdict, from a place on
 
-abbrev at_place : Verdict → ℕ → Cursor
+abbrev at_place : ℕ → ℕ → Cursor
 at_place verdict place = record { verdict = verdict; place = place }
 
 -- one entry, or none
 abbrev kept : Bool → Cursor → List Cursor
 kept test entry = cond test (entry ∷ []) []
 
-unfoldable later : List Entry → Verdict → ℕ → ℕ → List Cursor
+unfoldable later : List Entry → ℕ → ℕ → ℕ → List Cursor
 later rows verdict from zero = []
 later rows verdict from (suc places) = later rows verdict from places ++ kept (leb from places && has_verdict rows verdict places) (at_place verdict places)
 
 -- from the first place on, all of them
-later_all : (rows : List Entry) (verdict : Verdict) (places : ℕ) → later rows verdict 0 places ≡ entries_of rows verdict places
+later_all : (rows : List Entry) (verdict places : ℕ) → later rows verdict 0 places ≡ entries_of rows verdict places
 unfolding later entries_of
 later_all rows verdict zero = refl
 later_all rows verdict (suc places) =
@@ -45,7 +42,7 @@ later_all rows verdict (suc places) =
     ∙ ap (λ (b : Bool). entries_of rows verdict places ++ kept (b && has_verdict rows verdict places) (at_place verdict places)) (le-leb 0 places (omega arith))
 
 -- where each place is passed there is none
-later_none : (rows : List Entry) (verdict : Verdict) (from places : ℕ) → ((k : ℕ) → k < places → passed rows verdict from k ≡ true) → later rows verdict from places ≡ []
+later_none : (rows : List Entry) (verdict from places : ℕ) → ((k : ℕ) → k < places → passed rows verdict from k ≡ true) → later rows verdict from places ≡ []
 unfolding later
 later_none rows verdict from zero all = refl
 later_none rows verdict from (suc places) all =
@@ -54,11 +51,11 @@ later_none rows verdict from (suc places) all =
     ∙ ap (λ (b : Bool). [] ++ kept b (at_place verdict places)) (not-true (leb from places && has_verdict rows verdict places) (all places (omega arith)))
 
 -- a place before the one to begin at is passed
-passed_before : (rows : List Entry) (verdict : Verdict) (from place : ℕ) → place < from → passed rows verdict from place ≡ true
+passed_before : (rows : List Entry) (verdict from place : ℕ) → place < from → passed rows verdict from place ≡ true
 passed_before rows verdict from place l = ap (λ (b : Bool). not (b && has_verdict rows verdict place)) (lt-leb from place l)
 
 -- the first that is not passed, and those behind it
-later_first : (rows : List Entry) (verdict : Verdict) (from places first : ℕ) → first < places → passed rows verdict from first ≡ false
+later_first : (rows : List Entry) (verdict from places first : ℕ) → first < places → passed rows verdict from first ≡ false
     → ((k : ℕ) → k < first → passed rows verdict from k ≡ true)
     → later rows verdict from places ≡ at_place verdict first ∷ later rows verdict (first + 1) places
 unfolding later
@@ -92,111 +89,107 @@ later_first rows verdict from (suc places) first h here before =
         ap (λ (entries : List Cursor). entries ++ kept (leb from places && has_verdict rows verdict places) (at_place verdict places)) on
         ∙ ap (λ (b : Bool). at_place verdict first ∷ (later rows verdict (first + 1) places ++ kept (b && has_verdict rows verdict places) (at_place verdict places))) same
 
--- ---- what is left to meet: of the first of some verdicts from a place on, then of the others
+-- ---- what is left to meet: of one verdict from a place on, then of so many better ones
 
-unfoldable left : List Entry → ℕ → List Verdict → ℕ → List Cursor
-left rows places [] from = []
-left rows places (verdict ∷ better) from = later rows verdict from places ++ entries_from rows places better
+unfoldable left : List Entry → ℕ → ℕ → ℕ → ℕ → List Cursor
+left rows places zero verdict from = []
+left rows places (suc better) verdict from = later rows verdict from places ++ entries_from rows places better (verdict + 1)
 
-left_all : (rows : List Entry) (places : ℕ) (verdicts : List Verdict) → left rows places verdicts 0 ≡ entries_from rows places verdicts
+left_all : (rows : List Entry) (places better verdict : ℕ) → left rows places better verdict 0 ≡ entries_from rows places better verdict
 unfolding left entries_from
-left_all rows places [] = refl
-left_all rows places (verdict ∷ better) = ap (λ (l : List Cursor). l ++ entries_from rows places better) (later_all rows verdict places)
-
--- each of some verdicts has those behind it for those from it on
-abbrev InOrder : List Verdict → Type 0
-InOrder [] = Unit {0}
-InOrder (verdict ∷ better) = (from_verdict verdict ≡ verdict ∷ better) × InOrder better
-
-in_order : InOrder worst_first
-unfolding worst_first from_verdict verdict_number
-in_order = (refl, (refl, (refl, (refl, (refl, (refl, tt))))))
+left_all rows places zero verdict = refl
+left_all rows places (suc better) verdict =
+    ap (λ (l : List Cursor). l ++ entries_from rows places better (verdict + 1)) (later_all rows verdict places)
 
 -- from each place on, all that is left is met, if so many may be met
 abbrev Met : List Entry → ℕ → ℕ → Type 0
 Met rows listed most =
-    (verdicts : List Verdict) (from : ℕ) → InOrder verdicts → length (left rows (places_in rows listed) verdicts from) < most
-    → visited rows listed (seeking rows (places_in rows listed) verdicts from) most ≡ left rows (places_in rows listed) verdicts from
+    (better verdict from : ℕ) → verdict + better ≡ 6 → length (left rows (places_in rows listed) better verdict from) < most
+    → visited rows listed (seek rows (places_in rows listed) verdict from) most ≡ left rows (places_in rows listed) better verdict from
 
 -- the next place where each is passed, and where not
-next_none : (rows : List Entry) (places : ℕ) (verdict : Verdict) (from : ℕ) → every (passed rows verdict from) places ≡ true
-    → next_place rows places verdict from ≡ places
+next_none : (rows : List Entry) (places verdict from : ℕ) → every (passed rows verdict from) places ≡ true → next_place rows places verdict from ≡ places
 unfolding next_place
 next_none rows places verdict from e = first_none (passed rows verdict from) places e
 
-next_at : (rows : List Entry) (places : ℕ) (verdict : Verdict) (from : ℕ) → every (passed rows verdict from) places ≡ false
+next_at : (rows : List Entry) (places verdict from : ℕ) → every (passed rows verdict from) places ≡ false
     → FirstAt (passed rows verdict from) places (next_place rows places verdict from)
 unfolding next_place
 next_at rows places verdict from e = first-at (passed rows verdict from) places e
 
-met_none : (rows : List Entry) (listed most : ℕ) (verdict : Verdict) (better : List Verdict) (from : ℕ)
-    → every (passed rows verdict from) (places_in rows listed) ≡ true
-    → (length (left rows (places_in rows listed) better 0) < suc most
-    → visited rows listed (seeking rows (places_in rows listed) better 0) (suc most) ≡ left rows (places_in rows listed) better 0)
-    → length (left rows (places_in rows listed) (verdict ∷ better) from) < suc most
-    → visited rows listed (seeking rows (places_in rows listed) (verdict ∷ better) from) (suc most) ≡ left rows (places_in rows listed) (verdict ∷ better) from
-unfolding left seeking
-met_none rows listed most verdict better from all on few =
+met_none : (rows : List Entry) (listed most better verdict from : ℕ) → verdict + suc better ≡ 6 → every (passed rows verdict from) (places_in rows listed) ≡ true
+    → (length (left rows (places_in rows listed) better (verdict + 1) 0) < suc most
+    → visited rows listed (seek rows (places_in rows listed) (verdict + 1) 0) (suc most) ≡ left rows (places_in rows listed) better (verdict + 1) 0)
+    → length (left rows (places_in rows listed) (suc better) verdict from) < suc most
+    → visited rows listed (seek rows (places_in rows listed) verdict from) (suc most) ≡ left rows (places_in rows listed) (suc better) verdict from
+unfolding left
+met_none rows listed most better verdict from e all on few =
     let places = places_in rows listed in
-    let same : later rows verdict from places ++ entries_from rows places better ≡ left rows places better 0 =
-    ap (λ (l : List Cursor). l ++ entries_from rows places better)
+    let same : later rows verdict from places ++ entries_from rows places better (verdict + 1) ≡ left rows places better (verdict + 1) 0 =
+    ap (λ (l : List Cursor). l ++ entries_from rows places better (verdict + 1))
     (later_none rows verdict from places (λ k l. every-at (passed rows verdict from) places k all l))
-    ∙ sym (left_all rows places better) in
-    let none : ltb (next_place rows places verdict from) places ≡ false = le-ltb _ _ (omega (arith, next_none rows places verdict from all)) in
-    ap (λ (b : Bool). visited rows listed (cond b (Some (at_place verdict (next_place rows places verdict from))) (seeking rows places better 0)) (suc most)) none
-    ∙ on (omega (arith, few, ap length same)) ∙ sym same
+    ∙ sym (left_all rows places better (verdict + 1)) in
+    let next = seek_on rows places verdict from (omega arith) (omega (arith, next_none rows places verdict from all)) in
+    ap (λ (cursor : Option Cursor). visited rows listed cursor (suc most)) next ∙ on (omega (arith, few, ap length same)) ∙ sym same
 
-met_here : (rows : List Entry) (listed most : ℕ) (verdict : Verdict) (better : List Verdict) (from : ℕ) → InOrder (verdict ∷ better)
-    → every (passed rows verdict from) (places_in rows listed) ≡ false → Met rows listed most
-    → length (left rows (places_in rows listed) (verdict ∷ better) from) < suc most
-    → visited rows listed (seeking rows (places_in rows listed) (verdict ∷ better) from) (suc most) ≡ left rows (places_in rows listed) (verdict ∷ better) from
-unfolding left seeking seek visited next_entry
-met_here rows listed most verdict better from ordered found on few =
+met_here : (rows : List Entry) (listed most better verdict from : ℕ) → verdict + suc better ≡ 6 → every (passed rows verdict from) (places_in rows listed) ≡ false
+    → Met rows listed most → length (left rows (places_in rows listed) (suc better) verdict from) < suc most
+    → visited rows listed (seek rows (places_in rows listed) verdict from) (suc most) ≡ left rows (places_in rows listed) (suc better) verdict from
+unfolding left visited next_entry
+met_here rows listed most better verdict from e found on few =
     let places = places_in rows listed in
     let at = next_at rows places verdict from found in
     let first = next_place rows places verdict from in
-    let split : left rows places (verdict ∷ better) from ≡ at_place verdict first ∷ left rows places (verdict ∷ better) (first + 1) =
-    ap (λ (l : List Cursor). l ++ entries_from rows places better)
+    let split : left rows places (suc better) verdict from ≡ at_place verdict first ∷ left rows places (suc better) verdict (first + 1) =
+    ap (λ (l : List Cursor). l ++ entries_from rows places better (verdict + 1))
     (later_first rows verdict from places first at.below at.fails (λ k l. every-at (passed rows verdict from) first k at.before l)) in
-    let long : length (left rows places (verdict ∷ better) from) ≡ suc (length (left rows places (verdict ∷ better) (first + 1))) = ap length split in
-    let here : ltb first places ≡ true = lt-ltb first places at.below in
-    ap (λ (b : Bool). visited rows listed (cond b (Some (at_place verdict first)) (seeking rows places better 0)) (suc most)) here
-    ∙ ap (λ (b : Bool). at_place verdict first ∷ visited rows listed (cond b (seek rows places verdict (first + 1)) (seek rows places verdict places)) most) here
-    ∙ ap (λ (verdicts : List Verdict). at_place verdict first ∷ visited rows listed (seeking rows places verdicts (first + 1)) most) ordered.0
-    ∙ ap (λ (l : List Cursor). at_place verdict first ∷ l) (on (verdict ∷ better) (first + 1) ordered (omega (arith, few, long))) ∙ sym split
+    let long : length (left rows places (suc better) verdict from) ≡ suc (length (left rows places (suc better) verdict (first + 1))) = ap length split in
+    let head : visited rows listed (Some (at_place verdict first)) (suc most)
+    ≡ at_place verdict first ∷ visited rows listed (seek rows places verdict (first + 1)) most =
+    rw (lt-ltb first places at.below) in
+    ap (λ (cursor : Option Cursor). visited rows listed cursor (suc most)) (seek_here rows places verdict from (omega arith) at.below) ∙ head
+    ∙ ap (λ (l : List Cursor). at_place verdict first ∷ l) (on (suc better) verdict (first + 1) e (omega (arith, few, long))) ∙ sym split
 
 met_more : (rows : List Entry) (listed most : ℕ) → Met rows listed most → Met rows listed (suc most)
-unfolding left seeking visited
-met_more rows listed most on [] from ordered few = refl
-met_more rows listed most on (verdict ∷ better) from ordered few =
+unfolding left visited
+met_more rows listed most on zero verdict from e few =
+    ap (λ (cursor : Option Cursor). visited rows listed cursor (suc most)) (seek_none rows (places_in rows listed) verdict from (omega arith))
+met_more rows listed most on (suc better) verdict from e few =
     by_value
-    (λ b. visited rows listed (seeking rows (places_in rows listed) (verdict ∷ better) from) (suc most) ≡ left rows (places_in rows listed) (verdict ∷ better) from)
+    (λ b. visited rows listed (seek rows (places_in rows listed) verdict from) (suc most) ≡ left rows (places_in rows listed) (suc better) verdict from)
     (every (passed rows verdict from) (places_in rows listed))
-    (λ all. met_none rows listed most verdict better from all (λ f. met_more rows listed most on better 0 ordered.1 f) few)
-    (λ found. met_here rows listed most verdict better from ordered found on few)
+    (λ all. met_none rows listed most better verdict from e all (λ f. met_more rows listed most on better (verdict + 1) 0 (omega arith) f) few)
+    (λ found. met_here rows listed most better verdict from e found on few)
 
 met_all : (rows : List Entry) (listed most : ℕ) → Met rows listed most
-met_all rows listed zero verdicts from ordered few = absurd (omega arith)
-met_all rows listed (suc most) verdicts from ordered few = met_more rows listed most (met_all rows listed most) verdicts from ordered few
+met_all rows listed zero better verdict from e few = absurd (omega arith)
+met_all rows listed (suc most) better verdict from e few = met_more rows listed most (met_all rows listed most) better verdict from e few
 
 -- ---- no place is met twice: there are at most as many entries as places
 
--- how many of some verdicts a verdict is
-unfoldable hits : Verdict → List Verdict → ℕ
-hits this [] = 0
-hits this (verdict ∷ better) = cond (eqb (verdict_number this) (verdict_number verdict)) 1 0 + hits this better
+-- how many of some verdicts the row at a place has
+unfoldable hits : List Entry → ℕ → ℕ → ℕ → ℕ
+hits rows place zero verdict = 0
+hits rows place (suc more) verdict = cond (has_verdict rows verdict place) 1 0 + hits rows place more (verdict + 1)
 
-hits_one : (this : Verdict) → hits this worst_first ≤ 1
-unfolding hits worst_first verdict_number
-hits_one Incomplete = omega arith
-hits_one Refused = omega arith
-hits_one RefusedActions = omega arith
-hits_one Cut = omega arith
-hits_one LocksLost = omega arith
-hits_one TakesFailed = omega arith
-hits_one Good = omega arith
+hits_none : (rows : List Entry) (place more verdict : ℕ) → (entry_at rows place).verdict < verdict → hits rows place more verdict ≡ 0
+unfolding hits has_verdict is_with
+hits_none rows place zero verdict l = refl
+hits_none rows place (suc more) verdict l =
+    let other : eqb ((entry_at rows place).verdict) verdict ≡ false = ne_eqb ((entry_at rows place).verdict) verdict (λ e. omega (arith, e, l)) in
+    rw other (omega (arith, hits_none rows place more (verdict + 1) (omega arith)))
 
-entries_of-more : (rows : List Entry) (verdict : Verdict) (places : ℕ)
+hits_one : (rows : List Entry) (place more verdict : ℕ) → hits rows place more verdict ≤ 1
+unfolding hits has_verdict is_with
+hits_one rows place zero verdict = omega arith
+hits_one rows place (suc more) verdict =
+    by_value
+    (λ b. cond b 1 0 + hits rows place more (verdict + 1) ≤ 1)
+    (eqb ((entry_at rows place).verdict) verdict)
+    (λ e. omega (arith, hits_none rows place more (verdict + 1) (omega (arith, eqb-true ((entry_at rows place).verdict) verdict e))))
+    (λ e. omega (arith, hits_one rows place more (verdict + 1)))
+
+entries_of-more : (rows : List Entry) (verdict places : ℕ)
     → length (entries_of rows verdict (suc places)) ≡ length (entries_of rows verdict places) + cond (has_verdict rows verdict places) 1 0
 unfolding entries_of
 entries_of-more rows verdict places =
@@ -207,31 +200,32 @@ entries_of-more rows verdict places =
     (λ e. refl)
     (λ e. refl)
 
-entries_more : (rows : List Entry) (places : ℕ) (verdicts : List Verdict)
-    → length (entries_from rows (suc places) verdicts) ≡ length (entries_from rows places verdicts) + hits (entry_at rows places).verdict verdicts
-unfolding entries_from hits has_verdict is_with
-entries_more rows places [] = refl
-entries_more rows places (verdict ∷ better) =
-    let one = length-append (entries_of rows verdict (suc places)) (entries_from rows (suc places) better) in
-    let two = length-append (entries_of rows verdict places) (entries_from rows places better) in
-    omega (arith, one, two, entries_of-more rows verdict places, entries_more rows places better)
+entries_more : (rows : List Entry) (places more verdict : ℕ)
+    → length (entries_from rows (suc places) more verdict) ≡ length (entries_from rows places more verdict) + hits rows places more verdict
+unfolding entries_from hits
+entries_more rows places zero verdict = refl
+entries_more rows places (suc more) verdict =
+    let one = length-append (entries_of rows verdict (suc places)) (entries_from rows (suc places) more (verdict + 1)) in
+    let two = length-append (entries_of rows verdict places) (entries_from rows places more (verdict + 1)) in
+    omega (arith, one, two, entries_of-more rows verdict places, entries_more rows places more (verdict + 1))
 
-entries_nowhere : (rows : List Entry) (verdicts : List Verdict) → entries_from rows zero verdicts ≡ []
+entries_nowhere : (rows : List Entry) (more verdict : ℕ) → entries_from rows zero more verdict ≡ []
 unfolding entries_from entries_of
-entries_nowhere rows [] = refl
-entries_nowhere rows (verdict ∷ better) = entries_nowhere rows better
+entries_nowhere rows zero verdict = refl
+entries_nowhere rows (suc more) verdict = entries_nowhere rows more (verdict + 1)
 
-entries_few : (rows : List Entry) (places : ℕ) → length (entries_from rows places worst_first) ≤ places
-entries_few rows zero = omega (arith, ap length (entries_nowhere rows worst_first))
-entries_few rows (suc places) = omega (arith, entries_more rows places worst_first, hits_one (entry_at rows places).verdict, entries_few rows places)
+entries_few : (rows : List Entry) (places more verdict : ℕ) → length (entries_from rows places more verdict) ≤ places
+entries_few rows zero more verdict = omega (arith, ap length (entries_nowhere rows more verdict))
+entries_few rows (suc places) more verdict =
+    omega (arith, entries_more rows places more verdict, hits_one rows places more verdict, entries_few rows places more verdict)
 
 places_few : (rows : List Entry) (listed : ℕ) → places_in rows listed ≤ listed
 unfolding places_in
 places_few rows listed = omega arith
 
 pub worst-first : WorstFirst
-unfolding first_entry report_order seek from_verdict verdict_number
+unfolding first_entry report_order
 worst-first rows listed most h =
     let places = places_in rows listed in
-    let all = left_all rows places worst_first in
-    met_all rows listed most worst_first 0 in_order (omega (arith, ap length all, entries_few rows places, places_few rows listed, h)) ∙ all
+    let all = left_all rows places 6 0 in
+    met_all rows listed most 6 0 0 refl (omega (arith, ap length all, entries_few rows places 6 0, places_few rows listed, h)) ∙ all

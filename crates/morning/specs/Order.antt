@@ -1,17 +1,16 @@
 -- The listed schedules in the order of the report: by verdict, worst first, and of one verdict in the order of the text; what a row says.
-use Rattle.std.specs.Prelude.{ℕ, zero, suc, ◌+◌, min, Bool, cond, not, ◌&&◌, List, [], ◌∷◌, ◌++◌, Option, Some, None, eqb, ltb, leb, length, get_or, drop}
+use Rattle.std.specs.Prelude.{ℕ, zero, suc, ◌+◌, ◌-◌, min, Bool, cond, not, ◌&&◌, List, [], ◌∷◌, ◌++◌, Option, Some, None, eqb, ltb, leb, length, get_or}
 use Rattle.lists.specs.Loops.{first_not}
-use Rattle.verdict.specs.declared.Verdict.{Verdict}
-use Rattle.verdict.specs.declared.Verdict.TheVariants.{Incomplete, Refused, RefusedActions, Cut, LocksLost, TakesFailed, Good}
-use Rattle.verdict.specs.Verdicts.{verdict_number, no_notes}
+use Rattle.verdict.specs.Verdicts.{no_notes}
 use Rattle.morning.specs.declared.Cursor.{Cursor}
 use Rattle.morning.specs.declared.Entry.{Entry}
+use Rattle.morning.specs.Reading.{good_number}
 
 -- ---- a row
 
 -- what no row says
 unfoldable pub no_entry : Entry
-no_entry = record { verdict = Good; noted = no_notes; start = 0; end = 0 }
+no_entry = record { verdict = good_number; noted = no_notes; start = 0; end = 0 }
 
 -- what the row at a place says
 unfoldable pub entry_at : List Entry → ℕ → Entry
@@ -23,36 +22,28 @@ entry_at rows place = get_or rows place no_entry
 unfoldable pub places_in : List Entry → ℕ → ℕ
 places_in rows listed = min listed (length rows)
 
-unfoldable pub is_with : Verdict → Entry → Bool
-is_with verdict entry = eqb (verdict_number entry.verdict) (verdict_number verdict)
+unfoldable pub is_with : ℕ → Entry → Bool
+is_with verdict entry = eqb entry.verdict verdict
 
-unfoldable pub has_verdict : List Entry → Verdict → ℕ → Bool
+unfoldable pub has_verdict : List Entry → ℕ → ℕ → Bool
 has_verdict rows verdict place = is_with verdict (entry_at rows place)
 
 -- the first place from one on whose row has a verdict; the number of places where there is none
-unfoldable pub next_place : List Entry → ℕ → Verdict → ℕ → ℕ
+unfoldable pub next_place : List Entry → ℕ → ℕ → ℕ → ℕ
 next_place rows places verdict from = first_not (λ place. not (leb from place && has_verdict rows verdict place)) places
 
--- the verdicts that are listed, worst first
-unfoldable pub worst_first : List Verdict
-worst_first = Incomplete ∷ Refused ∷ RefusedActions ∷ Cut ∷ LocksLost ∷ TakesFailed ∷ []
-
--- those from one on
-unfoldable pub from_verdict : Verdict → List Verdict
-from_verdict verdict = drop (verdict_number verdict) worst_first
-
--- with the first of these verdicts from a place on, or else with one of the others; none
-unfoldable pub seeking : List Entry → ℕ → List Verdict → ℕ → Option Cursor
-seeking rows places [] from = None
-seeking rows places (verdict ∷ better) from =
+-- with a verdict from a place on, or else with one of so many better verdicts; none
+unfoldable pub seeking : List Entry → ℕ → ℕ → ℕ → ℕ → Option Cursor
+seeking rows places zero verdict from = None
+seeking rows places (suc better) verdict from =
     cond (ltb (next_place rows places verdict from) places) (Some (record { verdict = verdict; place = next_place rows places verdict from }))
-    (seeking rows places better 0)
+    (seeking rows places better (verdict + 1) 0)
 
-unfoldable pub seek : List Entry → ℕ → Verdict → ℕ → Option Cursor
-seek rows places verdict from = seeking rows places (from_verdict verdict) from
+unfoldable pub seek : List Entry → ℕ → ℕ → ℕ → Option Cursor
+seek rows places verdict from = seeking rows places (good_number - verdict) verdict from
 
 unfoldable pub first_entry : List Entry → ℕ → Option Cursor
-first_entry rows listed = seek rows (places_in rows listed) Incomplete 0
+first_entry rows listed = seek rows (places_in rows listed) 0 0
 
 unfoldable pub next_entry : List Entry → ℕ → Cursor → Option Cursor
 next_entry rows listed cursor =
@@ -62,18 +53,18 @@ next_entry rows listed cursor =
 -- ---- the whole order
 
 -- of one verdict, the places ascending
-unfoldable pub entries_of : List Entry → Verdict → ℕ → List Cursor
+unfoldable pub entries_of : List Entry → ℕ → ℕ → List Cursor
 entries_of rows verdict zero = []
 entries_of rows verdict (suc places) =
     entries_of rows verdict places ++ cond (has_verdict rows verdict places) (record { verdict = verdict; place = places } ∷ []) []
 
--- of these verdicts, in order
-unfoldable pub entries_from : List Entry → ℕ → List Verdict → List Cursor
-entries_from rows places [] = []
-entries_from rows places (verdict ∷ better) = entries_of rows verdict places ++ entries_from rows places better
+-- so many verdicts from this one on, in order
+unfoldable pub entries_from : List Entry → ℕ → ℕ → ℕ → List Cursor
+entries_from rows places zero verdict = []
+entries_from rows places (suc more) verdict = entries_of rows verdict places ++ entries_from rows places more (verdict + 1)
 
 unfoldable pub report_order : List Entry → ℕ → List Cursor
-report_order rows listed = entries_from rows (places_in rows listed) worst_first
+report_order rows listed = entries_from rows (places_in rows listed) good_number 0
 
 -- those that are met, from one on, so many at most
 unfoldable pub visited : List Entry → ℕ → Option Cursor → ℕ → List Cursor

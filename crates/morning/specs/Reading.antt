@@ -1,7 +1,7 @@
 -- The text of a night, read byte by byte. A line that begins with `>` is a head line: the rest of it names a schedule's file, and the lines behind it, up to
 -- the next head line, are the schedule's text (lines before the first head line are those of a schedule without a name). Each schedule is counted by
 -- its verdict, and one that is not good is listed: a row, and its name.
-use Rattle.std.specs.Prelude.{ℕ, ◌+◌, Bool, true, false, cond, ◌&&◌, List, [], ◌∷◌, Option, Some, None, unwrap_or, option_map, eqb, ltb, length, get_or, replicate, set}
+use Rattle.std.specs.Prelude.{ℕ, ◌+◌, Bool, true, false, cond, ◌&&◌, List, [], ◌∷◌, eqb, ltb, length, get_or, replicate, set}
 use Rattle.gather.specs.Gathering.{more}
 use Rattle.verdict.specs.declared.Watch.{Watch}
 use Rattle.verdict.specs.declared.Judged.{Judged}
@@ -16,17 +16,14 @@ use Rattle.morning.specs.declared.Entry.{Entry}
 abbrev pub good_number : ℕ
 good_number = 6
 
--- at the start of the text
-unfoldable pub start_night : Night
-start_night = record { place = LineStart; hand = None; used = 0; listed = 0; unlisted = 0; counts = replicate 7 0 }
-
 -- a schedule begins: its name starts where the names end
 unfoldable pub hand_begun : ℕ → AtHand
 hand_begun used = record { watch = start_watch; start = used; fits = true }
 
--- the schedule at hand; where there is none, one begins
-unfoldable pub hand_of : Night → AtHand
-hand_of night = unwrap_or night.hand (hand_begun night.used)
+-- at the start of the text
+unfoldable pub start_night : Night
+start_night =
+    record { place = LineStart; begun = false; hand = hand_begun 0; used = 0; listed = 0; unlisted = 0; counts = replicate 7 0 }
 
 -- ---- a schedule's text
 
@@ -35,7 +32,8 @@ unfoldable pub reading : Place → Watch → Night → Night
 reading place watch night =
     record {
       place = place;
-      hand = Some (record { watch = watch; start = (hand_of night).start; fits = (hand_of night).fits });
+      begun = true;
+      hand = record { watch = watch; start = night.hand.start; fits = night.hand.fits };
       used = night.used;
       listed = night.listed;
       unlisted = night.unlisted;
@@ -43,25 +41,22 @@ reading place watch night =
     }
 
 unfoldable pub line_byte : Night → ℕ → Night
-line_byte night byte = reading (cond (eqb byte 10) LineStart InLine) (watch_byte (hand_of night).watch byte) night
+line_byte night byte = reading (cond (eqb byte 10) LineStart InLine) (watch_byte night.hand.watch byte) night
 
 -- ---- a schedule's name
 
--- the place, where the names end, and the schedule at hand, with whether there was room for its name
-unfoldable pub naming : Place → ℕ → Option AtHand → Night → Night
-naming place used hand night =
+-- the place, where the names end, and whether there was room for this one
+unfoldable pub naming : Place → ℕ → Bool → Night → Night
+naming place used fits night =
     record {
       place = place;
-      hand = hand;
+      begun = night.begun;
+      hand = record { watch = night.hand.watch; start = night.hand.start; fits = fits };
       used = used;
       listed = night.listed;
       unlisted = night.unlisted;
       counts = night.counts;
     }
-
--- there was no room
-unfoldable pub no_room : AtHand → AtHand
-no_room hand = record { watch = hand.watch; start = hand.start; fits = false }
 
 -- a byte of a name as it is shown: a question mark for a control byte
 unfoldable pub shown : ℕ → ℕ
@@ -70,8 +65,8 @@ shown byte = cond (ltb byte 32) 63 (cond (eqb byte 127) 63 byte)
 -- it is kept where the names end, if there is room for so many bytes
 unfoldable pub name_byte : ℕ → Night → ℕ → Night
 name_byte room night byte =
-    cond (eqb byte 10) (naming LineStart night.used night.hand night)
-    (cond (ltb night.used room) (naming InName (night.used + 1) night.hand night) (naming InName night.used (option_map no_room night.hand) night))
+    cond (eqb byte 10) (naming LineStart night.used night.hand.fits night)
+    (cond (ltb night.used room) (naming InName (night.used + 1) night.hand.fits night) (naming InName night.used false night))
 
 unfoldable pub names_after_name : Night → ℕ → List ℕ → List ℕ
 names_after_name night byte names = cond (eqb byte 10) names (set names night.used (shown byte))
@@ -94,7 +89,8 @@ unfoldable pub closed_as : ℕ → ℕ → ℕ → List ℕ → Night → Night
 closed_as used listed unlisted counts night =
     record {
       place = night.place;
-      hand = None;
+      begun = false;
+      hand = record { watch = night.hand.watch; start = used; fits = true };
       used = used;
       listed = listed;
       unlisted = unlisted;
@@ -102,30 +98,28 @@ closed_as used listed unlisted counts night =
     }
 
 -- with this verdict: listed; or not good and not listed, for want of room; or good. The name of one that is not listed is forgotten
-unfoldable pub closed_by : Judged → ℕ → AtHand → Night → Night
-closed_by j room hand night =
-    cond (is_listed (verdict_number j.verdict) hand.fits night.listed room)
+unfoldable pub closed_by : Judged → ℕ → Night → Night
+closed_by j room night =
+    cond (is_listed (verdict_number j.verdict) night.hand.fits night.listed room)
     (closed_as night.used (night.listed + 1) night.unlisted (counted_at night.counts (verdict_number j.verdict)) night)
     (cond (ltb (verdict_number j.verdict) good_number)
-    (closed_as hand.start night.listed (more night.unlisted) (counted_at night.counts (verdict_number j.verdict)) night)
-    (closed_as hand.start night.listed night.unlisted (counted_at night.counts (verdict_number j.verdict)) night))
+    (closed_as night.hand.start night.listed (more night.unlisted) (counted_at night.counts (verdict_number j.verdict)) night)
+    (closed_as night.hand.start night.listed night.unlisted (counted_at night.counts (verdict_number j.verdict)) night))
 
 -- if a schedule is at hand
-unfoldable pub closing : Option AtHand → ℕ → Night → Night
-closing None room night = night
-closing (Some hand) room night = closed_by (judged hand.watch) room hand night
+unfoldable pub closing : Bool → ℕ → Night → Night
+closing begun room night = cond begun (closed_by (judged night.hand.watch) room night) night
 
--- the row: the verdict; how many lines decide it, the first one's steps and two numbers; where the name starts and ends
-unfoldable pub row_put : Judged → AtHand → Night → List Entry → List Entry
-row_put j hand night rows = set rows night.listed (record { verdict = j.verdict; noted = j.noted; start = hand.start; end = night.used })
+-- the row: the verdict's number; how many lines decide it, the first one's steps and two numbers; where the name starts and ends
+unfoldable pub row_put : Judged → Night → List Entry → List Entry
+row_put j night rows = set rows night.listed (record { verdict = verdict_number j.verdict; noted = j.noted; start = night.hand.start; end = night.used })
 
-unfoldable pub rows_closed_by : Judged → AtHand → Night → List Entry → List Entry
-rows_closed_by j hand night rows =
-    cond (is_listed (verdict_number j.verdict) hand.fits night.listed (length rows)) (row_put j hand night rows) rows
+unfoldable pub rows_closed_by : Judged → Night → List Entry → List Entry
+rows_closed_by j night rows =
+    cond (is_listed (verdict_number j.verdict) night.hand.fits night.listed (length rows)) (row_put j night rows) rows
 
-unfoldable pub rows_closing : Option AtHand → Night → List Entry → List Entry
-rows_closing None night rows = rows
-rows_closing (Some hand) night rows = rows_closed_by (judged hand.watch) hand night rows
+unfoldable pub rows_closing : Bool → Night → List Entry → List Entry
+rows_closing begun night rows = cond begun (rows_closed_by (judged night.hand.watch) night rows) rows
 
 -- ---- one byte more
 
@@ -134,7 +128,8 @@ unfoldable pub head_begun : Night → Night
 head_begun night =
     record {
       place = InName;
-      hand = Some (hand_begun night.used);
+      begun = true;
+      hand = hand_begun night.used;
       used = night.used;
       listed = night.listed;
       unlisted = night.unlisted;
@@ -143,10 +138,10 @@ head_begun night =
 
 -- at the start of a line `>` begins a head line, and ends the schedule before it
 unfoldable pub on_line_start : ℕ → Night → ℕ → Night
-on_line_start room night byte = cond (eqb byte 62) (head_begun (closing night.hand room night)) (line_byte night byte)
+on_line_start room night byte = cond (eqb byte 62) (head_begun (closing night.begun room night)) (line_byte night byte)
 
 unfoldable pub rows_on_line_start : Night → ℕ → List Entry → List Entry
-rows_on_line_start night byte rows = cond (eqb byte 62) (rows_closing night.hand night rows) rows
+rows_on_line_start night byte rows = cond (eqb byte 62) (rows_closing night.begun night rows) rows
 
 -- so many rows, names of so many bytes
 unfoldable pub after_byte_in : Place → ℕ → ℕ → Night → ℕ → Night
@@ -191,7 +186,7 @@ names_after_all room night (byte ∷ rest) names =
 -- ---- the end of the text
 
 unfoldable pub end_night : ℕ → Night → Night
-end_night room night = closing night.hand room night
+end_night room night = closing night.begun room night
 
 unfoldable pub rows_end_night : Night → List Entry → List Entry
-rows_end_night night rows = rows_closing night.hand night rows
+rows_end_night night rows = rows_closing night.begun night rows

@@ -88,7 +88,7 @@ name_bytes (schedule ∷ rest) = length schedule.name + name_bytes rest
 
 -- the row of a schedule: its verdict, what that rests on, and its name as it is shown
 pub record RowOf (rows : List Entry) (names : List ℕ) (k : ℕ) (schedule : Schedule) : Type 0 where
-  pub verdict : (entry_at rows k).verdict ≡ (verdict_of schedule.text).verdict
+  pub verdict : (entry_at rows k).verdict ≡ number_of schedule
   pub count : (entry_at rows k).noted.count ≡ (verdict_of schedule.text).noted.count
   pub steps : (entry_at rows k).noted.steps ≡ (verdict_of schedule.text).noted.steps
   pub first : (entry_at rows k).noted.first ≡ (verdict_of schedule.text).noted.first

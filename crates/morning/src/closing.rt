@@ -3,9 +3,9 @@
 
 ghost use Rattle.std.specs.Prelude.{◌≡◌, length};
 ghost use Rattle.verdict.specs.Verdicts.{verdict_number};
-ghost use Rattle.morning.specs.Reading.{counted_at, closing, rows_closing, on_line_start, rows_on_line_start, end_night, rows_end_night};
+ghost use Rattle.morning.specs.Reading.{counted_at, closed_as, closing, rows_closing, on_line_start, rows_on_line_start, end_night, rows_end_night};
 
-use crate::{Entry, Night, Place, standing};
+use crate::{AtHand, Entry, Night, Place, standing};
 use verdict::{Judged, Verdict};
 
 // The counts with one more of a verdict.
@@ -19,56 +19,71 @@ fn counted(counts: [u64; 7], verdict: Verdict) -> [u64; 7]
 }
 
 impl Night {
+    // No schedule is at hand, and the names end at this place. What was read of the one that has ended stays, and is gone on with where more is read
+    // behind the end of a night: the promise is of every state.
+    fn closed_at(self, used: usize, counts: [u64; 7]) -> Night
+        ensures { result ≡ closed_as used self.listed self.unlisted counts self }
+    {
+        Night {
+            begun: false,
+            hand: AtHand {
+                start: used,
+                fits: true,
+                ..self.hand
+            },
+            used,
+            counts,
+            ..self
+        }
+    }
+
     // The schedule at hand has ended, if there is one. The name of one that is not listed is forgotten.
     fn closing(self, rows: &mut [Entry]) -> Night
-        ensures value { result ≡ closing self.hand (length rows.old) self }
-        ensures rows_after { rows.new ≡ rows_closing self.hand self rows.old }
+        ensures value { result ≡ closing self.begun (length rows.old) self }
+        ensures rows_after { rows.new ≡ rows_closing self.begun self rows.old }
     {
-        let Some(hand) = self.hand else {
+        if !self.begun {
             return self;
-        };
-        let Judged { verdict, noted } = verdict::judge(hand.watch);
-        let closed = Night {
-            hand: None,
-            used: hand.start,
-            counts: counted(self.counts, verdict),
-            ..self
-        };
+        }
+        let AtHand { watch, start, fits } = self.hand;
+        let Judged { verdict, noted } = verdict::judge(watch);
+        let counts = counted(self.counts, verdict);
         match verdict {
-            Verdict::Good => closed,
-            _ if hand.fits && self.listed < rows.len() => {
+            Verdict::Good => self.closed_at(start, counts),
+            _ if fits && self.listed < rows.len() => {
                 rows[self.listed] = Entry {
-                    verdict,
+                    verdict: u64::from(verdict::verdict_number(verdict)),
                     noted,
-                    start: hand.start,
+                    start,
                     end: self.used,
                 };
                 Night {
-                    used: self.used,
                     listed: self.listed + 1,
-                    ..closed
+                    ..self.closed_at(self.used, counts)
                 }
             }
             _ => Night {
                 unlisted: gather::more(self.unlisted),
-                ..closed
+                ..self.closed_at(start, counts)
             },
         }
     }
 
     // One byte more at the start of a line: `>` begins a head line, and ends the schedule before it.
-    pub(crate) fn on_line_start(self, byte: u8, rows: &mut [Entry]) -> Night
-        ensures value { result ≡ on_line_start (length rows.old) self byte }
-        ensures rows_after { rows.new ≡ rows_on_line_start self byte rows.old }
+    pub(crate) fn on_line_start(&mut self, byte: u8, rows: &mut [Entry])
+        ensures night_after { self.new ≡ on_line_start (length rows.old) self.old byte }
+        ensures rows_after { rows.new ≡ rows_on_line_start self.old byte rows.old }
     {
-        if byte != b'>' {
-            return self.line_byte(byte);
-        }
-        let closed = self.closing(rows);
-        Night {
-            place: Place::InName,
-            hand: Some(standing::hand_begun(closed.used)),
-            ..closed
+        if byte == b'>' {
+            let closed = self.closing(rows);
+            *self = Night {
+                place: Place::InName,
+                begun: true,
+                hand: standing::hand_begun(closed.used),
+                ..closed
+            };
+        } else {
+            self.line_byte(byte);
         }
     }
 }

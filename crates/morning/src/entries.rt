@@ -2,14 +2,14 @@
 #![tactic(auto, unfolding(crate::specs::Order::no_entry, crate::specs::Order::entry_at, crate::specs::Order::places_in, crate::specs::Order::seek, crate::specs::Order::first_entry, crate::specs::Order::next_entry))]
 
 ghost use Rattle.std.specs.Prelude.{◌≤◌, ◌≡◌, cond, ltb, Some, None, length, take};
-ghost use Rattle.morning.specs.Order.{no_entry, entry_at, places_in, next_place, seeking, seek, first_entry, next_entry};
+ghost use Rattle.morning.specs.Order.{no_entry, entry_at, places_in, next_place, seek, first_entry, next_entry};
 
 use crate::{Cursor, Entry};
-use verdict::{Noted, Verdict};
+use verdict::Noted;
 
 // What no row says.
 pub const NO_ENTRY: Entry = Entry {
-    verdict: Verdict::Good,
+    verdict: 6,
     noted: Noted {
         count: 0,
         steps: 0,
@@ -19,16 +19,6 @@ pub const NO_ENTRY: Entry = Entry {
     start: 0,
     end: 0,
 };
-
-// The verdicts that are listed, worst first.
-const WORST_FIRST: [Verdict; 6] = [
-    Verdict::Incomplete,
-    Verdict::Refused,
-    Verdict::RefusedActions,
-    Verdict::Cut,
-    Verdict::LocksLost,
-    Verdict::TakesFailed,
-];
 
 // What the row at a place says; of a place without a row what no row says, as is promised of every place.
 pub fn entry_at(rows: &[Entry], place: usize) -> Entry
@@ -45,7 +35,7 @@ fn listed_rows(rows: &[Entry], listed: usize) -> &[Entry]
 }
 
 // The first place from one on whose row has a verdict.
-fn next_place(rows: &[Entry], verdict: Verdict, from: usize) -> Option<usize>
+fn next_place(rows: &[Entry], verdict: u64, from: usize) -> Option<usize>
     requires { from ≤ length rows.now }
     ensures { let places = length rows.now in result ≡ cond (ltb (next_place rows.now places verdict from) places) (Some (next_place rows.now places verdict from)) None }
 {
@@ -55,13 +45,13 @@ fn next_place(rows: &[Entry], verdict: Verdict, from: usize) -> Option<usize>
     Some(from + behind)
 }
 
-// The first listed schedule with the first of some verdicts from a place on, or else with one of the others.
-fn seeking(rows: &[Entry], verdicts: &[Verdict], from: usize) -> Option<Cursor>
+// The first listed schedule with a verdict from a place on, or else with a better verdict; none where the number is 6 or more.
+fn seek(rows: &[Entry], start: u64, from: usize) -> Option<Cursor>
     requires { from ≤ length rows.now }
-    ensures { result ≡ seeking rows.now (length rows.now) verdicts.now from }
+    ensures { result ≡ seek rows.now (length rows.now) start from }
 {
     let mut next = from;
-    for &verdict in verdicts {
+    for verdict in start..6 {
         if let Some(place) = next_place(rows, verdict, next) {
             return Some(Cursor { verdict, place });
         }
@@ -70,19 +60,11 @@ fn seeking(rows: &[Entry], verdicts: &[Verdict], from: usize) -> Option<Cursor>
     None
 }
 
-// The first listed schedule with a verdict from a place on, or else with a better verdict.
-fn seek(rows: &[Entry], verdict: Verdict, from: usize) -> Option<Cursor>
-    requires { from ≤ length rows.now }
-    ensures { result ≡ seek rows.now (length rows.now) verdict from }
-{
-    seeking(rows, &WORST_FIRST[verdict as usize..], from)
-}
-
 // The first listed schedule in the order of the report.
 pub fn first_entry(rows: &[Entry], listed: usize) -> Option<Cursor>
     ensures { result ≡ first_entry rows.now listed }
 {
-    seek(listed_rows(rows, listed), Verdict::Incomplete, 0)
+    seek(listed_rows(rows, listed), 0, 0)
 }
 
 // The one behind it.

@@ -14,7 +14,7 @@ ghost use Rattle.morning.specs.Reading.{start_night, names_after_byte, rows_afte
 pub use closing::end_night;
 pub use counts::{all_of, bad_of, looked_at_of};
 pub use entries::{NO_ENTRY, entry_at, first_entry, next_entry};
-use verdict::{Noted, Verdict, Watch};
+use verdict::{Noted, Watch};
 
 // Where the reading stands: at the start of a line, inside a line of a run, inside the name of a head line.
 #[derive(Clone, Copy, Debug, PartialEq, Eq)]
@@ -32,29 +32,32 @@ pub struct AtHand {
     pub fits: bool,
 }
 
-// How the reading of a night stands: the place; the schedule at hand, if there is one; where the names end; how many schedules are listed, how many
-// are not for want of room, and how many have each verdict.
+// How the reading of a night stands: the place; whether a schedule is at hand, and which; where the names end; how many schedules are listed, how many
+// are not for want of room, and how many have each verdict. A flag beside the schedule, and no Option: `night_text` is promised of every state, and behind
+// the end of a night it goes on with what was read of the schedule that has ended.
 #[derive(Clone, Copy, Debug, PartialEq, Eq)]
 pub struct Night {
     pub place: Place,
-    pub hand: Option<AtHand>,
+    pub begun: bool,
+    pub hand: AtHand,
     pub used: usize,
     pub listed: usize,
     pub unlisted: u64,
     pub counts: [u64; 7],
 }
 
-// A listed schedule, in the order of the report: its verdict and its place among the rows.
+// A listed schedule, in the order of the report: its verdict's number and its place among the rows. Any number: `next_entry` is promised of every cursor.
 #[derive(Clone, Copy, Debug, PartialEq, Eq)]
 pub struct Cursor {
-    pub verdict: Verdict,
+    pub verdict: u64,
     pub place: usize,
 }
 
-// A listed schedule's row: its verdict, the lines that it rests on, and where its name starts and ends.
+// A listed schedule's row: its verdict's number, the lines that it rests on, and where its name starts and ends. Any number: `entry_at`, `first_entry`
+// and `next_entry` are promised of every row.
 #[derive(Clone, Copy, Debug, PartialEq, Eq)]
 pub struct Entry {
-    pub verdict: Verdict,
+    pub verdict: u64,
     pub noted: Noted,
     pub start: usize,
     pub end: usize,
@@ -67,7 +70,8 @@ pub fn start_night() -> Night
 {
     Night {
         place: Place::LineStart,
-        hand: None,
+        begun: false,
+        hand: standing::hand_begun(0),
         used: 0,
         listed: 0,
         unlisted: 0,
@@ -77,10 +81,10 @@ pub fn start_night() -> Night
 
 // One byte more of the text.
 #[tactic(auto, unfolding(crate::specs::Reading::after_byte, crate::specs::Reading::after_byte_in, crate::specs::Reading::rows_after_byte, crate::specs::Reading::rows_after_byte_in, crate::specs::Reading::names_after_byte, crate::specs::Reading::names_after_byte_in))]
-fn night_byte(state: Night, byte: u8, rows: &mut [Entry], names: &mut [u8]) -> Night
-    ensures value { result ≡ after_byte (length rows.old) (length names.old) state byte }
-    ensures rows_after { rows.new ≡ rows_after_byte state byte rows.old }
-    ensures names_after { names.new ≡ names_after_byte state byte names.old }
+fn night_byte(state: &mut Night, byte: u8, rows: &mut [Entry], names: &mut [u8])
+    ensures night_after { state.new ≡ after_byte (length rows.old) (length names.old) state.old byte }
+    ensures rows_after { rows.new ≡ rows_after_byte state.old byte rows.old }
+    ensures names_after { names.new ≡ names_after_byte state.old byte names.old }
 {
     match state.place {
         Place::LineStart => state.on_line_start(byte, rows),
@@ -98,7 +102,7 @@ pub fn night_text(start: Night, text: &[u8], rows: &mut [Entry], names: &mut [u8
 {
     let mut state = start;
     for &byte in text {
-        state = night_byte(state, byte, rows, names);
+        night_byte(&mut state, byte, rows, names);
     }
     state
 }

@@ -1,5 +1,5 @@
 // How the reading stands inside a schedule's text, and inside its name.
-#![tactic(auto, unfolding(crate::specs::Reading::hand_begun, crate::specs::Reading::hand_of, crate::specs::Reading::reading, crate::specs::Reading::line_byte, crate::specs::Reading::naming, crate::specs::Reading::no_room, crate::specs::Reading::shown, crate::specs::Reading::name_byte, crate::specs::Reading::names_after_name))]
+#![tactic(auto, unfolding(crate::specs::Reading::hand_begun, crate::specs::Reading::reading, crate::specs::Reading::line_byte, crate::specs::Reading::naming, crate::specs::Reading::shown, crate::specs::Reading::name_byte, crate::specs::Reading::names_after_name))]
 
 ghost use Rattle.std.specs.Prelude.{◌≡◌, length};
 ghost use Rattle.morning.specs.Reading.{hand_begun, line_byte, shown, name_byte, names_after_name};
@@ -25,51 +25,33 @@ fn shown(byte: u8) -> u8
 }
 
 impl Night {
-    // One byte more of the schedule's text; where no schedule is at hand, one begins.
-    pub(crate) fn line_byte(self, byte: u8) -> Night
-        ensures { result ≡ line_byte self byte }
+    // One byte more of the schedule's text; a schedule is at hand.
+    pub(crate) fn line_byte(&mut self, byte: u8)
+        ensures { self.new ≡ line_byte self.old byte }
     {
-        let hand = self.hand.unwrap_or(hand_begun(self.used));
-        Night {
-            place: if byte == b'\n' {
-                Place::LineStart
-            } else {
-                Place::InLine
-            },
-            hand: Some(AtHand {
-                watch: verdict::watch_byte(hand.watch, byte),
-                ..hand
-            }),
-            ..self
-        }
+        self.place = if byte == b'\n' {
+            Place::LineStart
+        } else {
+            Place::InLine
+        };
+        self.begun = true;
+        self.hand.watch = verdict::watch_byte(self.hand.watch, byte);
     }
 
     // One byte more of a name: it is kept if there is room, and a newline ends the name.
-    pub(crate) fn name_byte(self, byte: u8, names: &mut [u8]) -> Night
-        ensures value { result ≡ name_byte (length names.old) self byte }
-        ensures names_after { names.new ≡ names_after_name self byte names.old }
+    pub(crate) fn name_byte(&mut self, byte: u8, names: &mut [u8])
+        ensures night_after { self.new ≡ name_byte (length names.old) self.old byte }
+        ensures names_after { names.new ≡ names_after_name self.old byte names.old }
     {
         if byte == b'\n' {
-            return Night {
-                place: Place::LineStart,
-                ..self
-            };
-        }
-        if self.used < names.len() {
+            self.place = Place::LineStart;
+        } else if self.used < names.len() {
             names[self.used] = shown(byte);
-            return Night {
-                place: Place::InName,
-                used: self.used + 1,
-                ..self
-            };
-        }
-        Night {
-            place: Place::InName,
-            hand: self.hand.map(|hand| AtHand {
-                fits: false,
-                ..hand
-            }),
-            ..self
+            self.place = Place::InName;
+            self.used += 1;
+        } else {
+            self.place = Place::InName;
+            self.hand.fits = false;
         }
     }
 }

@@ -25,7 +25,7 @@ use Rattle.course.specs.declared.Phase.TheVariants.{Items, Ended, Cut, Refused}
 use Rattle.course.specs.Standing.{nodes_of, locks_of, reached_next, one_step, past, steps_item, action_item, at_end, all_said}
 use Rattle.course.specs.Wording.{event_here, is_event, event_line, action_refusal, action_line, lock_line, last_line, refusal_line}
 use Rattle.course.specs.Whole.{Course, says, silence, telling, telling_all, closing, closing_all, many_steps, items, items_from, on_items, on_steps, working, course_in, course}
-use Rattle.nightlock.specs.Busy.{recounted, text_by, with_busy}
+use Rattle.nightlock.specs.Busy.{third_and_fourth, recounted, text_by, with_busy}
 use Rattle.nightlock.specs.Corollaries.{OnlyBusyDiffers, OnlyLockLinesTellBusySteps}
 
 -- a tally with other busy counts
@@ -110,7 +110,7 @@ same_telling_all then t counts run = same_telling (nodes_of run - run.next) then
 
 -- the lines of the end
 same_closing : (n : ℕ) → Then (closing n)
-unfolding closing past all_said lock_line last_line locks_of recounted lock_says with_busy
+unfolding closing past all_said lock_line last_line locks_of third_and_fourth recounted lock_says with_busy
 same_closing zero counts run =
     same_says (last_line run) (last_line run) (with_busy counts run) run (with_busy counts (all_said run)) (all_said run)
     (silence (with_busy counts (all_said run))) (silence (all_said run)) (λ count. refl) (same_silence counts (all_said run))
@@ -163,8 +163,8 @@ unfolding course_in working refusal_line all_said with_busy
 same_in Items ceiling schedule counts run = same_telling_all (on_steps ceiling schedule) (same_on_steps ceiling schedule) counts run
 same_in Ended ceiling schedule counts run = same_closing_all counts run
 same_in Cut ceiling schedule counts run = same_closing_all counts run
-same_in (Refused refusal) ceiling schedule counts run =
-    same_says (refusal_line refusal run) (refusal_line refusal run) (with_busy counts run) run (with_busy counts (all_said run)) (all_said run)
+same_in (Refused number place) ceiling schedule counts run =
+    same_says (refusal_line number place run) (refusal_line number place run) (with_busy counts run) run (with_busy counts (all_said run)) (all_said run)
     (silence (with_busy counts (all_said run))) (silence (all_said run)) (λ count. refl) (same_silence counts (all_said run))
 
 -- all is said, or not

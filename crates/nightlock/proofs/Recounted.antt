@@ -1,5 +1,5 @@
 -- Lines with another count of busy steps: only an H line changes, and where the count is the run's own no line does.
-use Rattle.std.specs.Prelude.{Option, None, Some}
+use Rattle.std.specs.Prelude.{Option, None, Some, is_some}
 use Prim.Native.Nat.{ℕ}
 use mathlib.Core.Path.{◌≡◌, refl, sym, ap, ap₂}
 use mathlib.Core.Bool.{Bool, true, false, cond}
@@ -17,13 +17,18 @@ use Rattle.course.specs.Wording.{event_here, is_cut, event_line, action_refusal,
 use Rattle.course.specs.Whole.{Said}
 use Rattle.run.specs.Filling.{texts}
 use Rattle.nightlock.specs.NightLock.{EachSaid}
-use Rattle.nightlock.specs.Busy.{recounted, text_by}
+use Rattle.nightlock.specs.Busy.{third_and_fourth, recounted, CountedAnewItHasFour, text_by}
+
+-- an H line counted anew has four numbers, whatever it had
+pub counted_anew_it_has_four : CountedAnewItHasFour
+unfolding recounted lock_says
+counted_anew_it_has_four count line e = ap (λ (n : ℕ). is_some (cond (eqb n 72) (lock_says line.steps line.first (count line.steps line.first) (third_and_fourth line.more).0 (third_and_fourth line.more).1) line).more) e
 
 module _ (count : ℕ → ℕ → ℕ) where
   -- an H line with this count
   pub lock_recounted : (steps lock busy grants failed : ℕ) → busy ≡ count steps lock
       → recounted count (lock_says steps lock busy grants failed) ≡ lock_says steps lock busy grants failed
-  unfolding recounted lock_says
+  unfolding third_and_fourth recounted lock_says
   lock_recounted steps lock busy grants failed e = ap (λ (n : ℕ). lock_says steps lock n grants failed) (sym e)
 
   -- no other line is an H line

@@ -1,6 +1,6 @@
 -- Busy steps, counted by a file's items and the states that they lead to, and not by the run's own tally (crate tally). 02, item 1: "A lock is busy after
 -- a step if some node holds it or is letting it go"; before it was busy if "some node holds it".
-use Rattle.std.specs.Prelude.{ℕ, zero, suc, ◌+◌, Bool, true, false, cond, List, [], ◌∷◌, ◌++◌, eqb, get_or}
+use Rattle.std.specs.Prelude.{ℕ, zero, suc, ◌+◌, Bool, true, false, cond, List, [], ◌∷◌, ◌++◌, eqb, get_or, Option, Some, None, is_some, ◌≡◌}
 use Rattle.lists.specs.Loops.{some}
 use Rattle.words.specs.Words.{has}
 use Rattle.plan.specs.Plan.{node_count}
@@ -8,7 +8,7 @@ use Rattle.usernode.specs.Node.{had}
 use Rattle.ring.specs.declared.State.{State}
 use Rattle.ring.specs.State.{rest_node, start_of}
 use Rattle.wording.specs.declared.Line.{Line}
-use Rattle.wording.specs.Wording.{text}
+use Rattle.wording.specs.Wording.{text, lock_says}
 use Rattle.course.specs.declared.Run.{Run}
 use Rattle.course.specs.Whole.{Said}
 use Rattle.onelock.specs.OneLock.{Item, step, act, after_item, Lock, free, held_by, broken}
@@ -34,9 +34,21 @@ steps_after_which so steps (act action node lock ∷ items) state = steps_after_
 unfoldable pub file_steps : (ℕ → State → Bool) → List ℕ → ℕ → ℕ → ℕ
 file_steps so file steps lock = steps_after_which (so lock) steps (items_in file) (start_of (plan_in file))
 
--- an H line with its busy steps by another count, of the steps done and the lock that it names; every other line as it is
+-- the third and the fourth number of a line, 0 and 0 where it has two numbers
+unfoldable pub third_and_fourth : Option (ℕ × ℕ) → ℕ × ℕ
+third_and_fourth None = (0, 0)
+third_and_fourth (Some more) = more
+
+-- an H line with its busy steps by another count, of the steps done and the lock that it names, and with four numbers whatever the line had; every other
+-- line as it is
 unfoldable pub recounted : (ℕ → ℕ → ℕ) → Line → Line
-recounted count line = cond (eqb line.letter 72) (record line { second = count line.steps line.first }) line
+recounted count line =
+    cond (eqb line.letter 72)
+    (lock_says line.steps line.first (count line.steps line.first) (third_and_fourth line.more).0 (third_and_fourth line.more).1) line
+
+-- so an H line counted anew has four numbers, also one that was made up with two
+abbrev pub CountedAnewItHasFour : Type 0
+CountedAnewItHasFour = (count : ℕ → ℕ → ℕ) (line : Line) → line.letter ≡ 72 → is_some (recounted count line).more ≡ true
 
 -- the lines so, as they are written
 unfoldable pub text_by : (ℕ → ℕ → ℕ) → List Said → List ℕ

@@ -68,6 +68,15 @@ ending_count bytes count coming place there small so =
     ∙ sym (ap (ends_at true coming) (drop-first bytes place there))
     ∙ so
 
+-- where a count brings more positions than there are bytes, they never end
+pub ended_over : (bytes : List ℕ) (count coming place : ℕ) → place < length bytes → length bytes < 2 ^ 64
+    → ends_at true coming (drop place bytes) ≡ ends_at false count bytes
+    → length bytes < min (coming + get_or bytes place 0) (2 ^ 64 - 1) → false ≡ ends_at false count bytes
+ended_over bytes count coming place there small so over =
+    let left = length-drop (place + 1) bytes in
+    sym (ends_short false (min (coming + get_or bytes place 0) (2 ^ 64 - 1)) (drop (place + 1) bytes) (omega (arith, left, over)))
+    ∙ ending_count bytes count coming place there small so
+
 -- and the end of the bytes
 at_end_lem : (opening : Bool) (coming : ℕ) → (eqb coming 0 && not opening) ≡ ends_at opening coming []
 unfolding ends_at

@@ -16,11 +16,18 @@ fn say(rt: &impl Print, reported: Result<(), ReportError>) -> io::Result<()> {
     }
 }
 
+// Writes the name of a case in a line of its own: its argument, or nothing where that has no room.
+fn write_name<R: Env + Print>(rt: &R, argument: usize) -> io::Result<()> {
+    let mut name = [0u8; 4096];
+    let length = rt.arg(argument, &mut name).unwrap_or(0);
+    print!(rt; "==== ")?;
+    rt.write_all(&name[..length])?;
+    println!(rt)
+}
+
 // Writes one case.
 fn write_case<R: Env + Files + Print>(case: &Case<'_, R>) -> io::Result<()> {
-    print!(case.rt; "==== ")?;
-    case.write_name()?;
-    println!(case.rt)?;
+    write_name(case.rt, case.argument)?;
     let reported = match case.open(b".txt") {
         Ok(mut file) => reporting::report(&mut file, &mut io::writer(case.rt)),
         Err(error) => Err(ReportError::NotRead(error)),

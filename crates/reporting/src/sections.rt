@@ -41,10 +41,11 @@ impl Listing<'_> {
         out.write_all(&self.names[start..end])
     }
 
-    // Writes a listed schedule: its verdict and its name, and in a second line what it rests on and what to do.
+    // Writes a listed schedule: its verdict and its name, and in a second line what it rests on and what to do. A good one is not listed, so every number
+    // above 4 is told as takes failed.
     fn write_entry<W: Write>(self, out: &mut W, place: usize) -> Result<()> {
         let entry = morning::entry_at(self.rows, place);
-        let verdict = entry.verdict;
+        let verdict = VERDICTS[entry.verdict.min(5) as usize];
         write!(out, "\n  {verdict}: ")?;
         self.write_name(out, entry)?;
         words::write_rest(out, entry)
@@ -52,7 +53,7 @@ impl Listing<'_> {
 
     // Writes the listed schedules from one on, as far as their verdicts belong to a part of the report, and answers where the listing then stands. As many
     // turns as are listed: a proved loop has to end.
-    fn write_entries<W: Write, F: Fn(Verdict) -> bool>(
+    fn write_entries<W: Write, F: Fn(u64) -> bool>(
         self,
         out: &mut W,
         start: Option<Cursor>,
@@ -107,9 +108,9 @@ pub(crate) fn write_report<W: Write>(
     write_counts(out, counts)?;
     words::write_bad(out, morning::bad_of(counts))?;
     let first = morning::first_entry(rows, listed);
-    let looked_at = listing.write_entries(out, first, Verdict::is_bad)?;
+    let looked_at = listing.write_entries(out, first, |number| verdict::is_bad(number))?;
     words::write_looked_at(out, morning::looked_at_of(counts))?;
-    listing.write_entries(out, looked_at, Verdict::is_looked_at)?;
+    listing.write_entries(out, looked_at, |number| verdict::is_looked_at(number))?;
     write_unlisted(out, unlisted)?;
     writeln!(out, "\nGOOD: {good}")
 }

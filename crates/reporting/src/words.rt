@@ -1,7 +1,7 @@
 // The words of the report: what each verdict and each number mean, and what to do. README.md has the same tables.
 use morning::Entry;
 use std::io::{Result, Write};
-use verdict::{Noted, Verdict};
+use verdict::Noted;
 
 // Writes the heading of a part of the report, with what to do about the schedules in it.
 fn write_heading<W: Write>(out: &mut W, heading: &str, count: u64, what_to_do: &str) -> Result<()> {
@@ -106,35 +106,34 @@ fn rest_of_locks<W: Write>(out: &mut W, noted: Noted, what: &str, what_to_do: &s
     writeln!(out, "node {node}, lock {lock}. {what_to_do}")
 }
 
-// Writes what a verdict rests on and what to do, behind the schedule's name. A good schedule is not listed.
+// Writes what a verdict rests on and what to do, by its number, behind the schedule's name. A good schedule is not listed.
 pub(crate) fn write_rest<W: Write>(out: &mut W, entry: Entry) -> Result<()> {
     let noted = entry.noted;
     match entry.verdict {
-        Verdict::Incomplete => writeln!(
+        0 => writeln!(
             out,
             "\n    there is no whole run. Run it again; do not use its lines."
         ),
-        Verdict::Refused => rest_of_refused(out, noted),
-        Verdict::RefusedActions => rest_of_actions(out, noted),
-        Verdict::Cut => {
+        1 => rest_of_refused(out, noted),
+        2 => rest_of_actions(out, noted),
+        3 => {
             let steps = noted.steps;
             writeln!(
                 out,
                 "\n    at {steps} steps. What comes behind was not run and is not checked: have the planner shorten the schedule."
             )
         }
-        Verdict::LocksLost => rest_of_locks(
+        4 => rest_of_locks(
             out,
             noted,
             "lost",
             "The loser's job may have been at work on the tables: have both owners look.",
         ),
-        Verdict::TakesFailed => rest_of_locks(
+        _ => rest_of_locks(
             out,
             noted,
             "failed",
             "A job would run without its lock if it does not ask again: have its owner look.",
         ),
-        Verdict::Good => writeln!(out),
     }
 }

@@ -11,9 +11,9 @@ use cars::Limits;
 
 impl State {
     // Whether as many nodes as there are pass.
-    fn nodes_pass(self, limits: Limits) -> bool
+    fn nodes_pass(&self, limits: Limits) -> bool
         requires { limits.nodes ≤ 64 }
-        ensures { result ≡ every (λ place. node_sound limits.rules limits.nodes limits.locks (get_or self.nodes place rest_node)) limits.nodes }
+        ensures { result ≡ every (λ place. node_sound limits.rules limits.nodes limits.locks (get_or self.now.nodes place rest_node)) limits.nodes }
     {
         self.nodes[..limits.nodes as usize]
             .iter()
@@ -21,9 +21,9 @@ impl State {
     }
 
     // Whether the first `count` junctions pass. Apart from `nodes_pass`: one function for both would need a trait with its law for `sound`, which is longer.
-    fn junctions_pass(self, limits: Limits, count: usize) -> bool
+    fn junctions_pass(&self, limits: Limits, count: usize) -> bool
         requires { count ≤ 144 }
-        ensures { result ≡ every (λ place. junction_sound limits.rules limits.nodes limits.locks (get_or self.junctions place rest_junction)) count }
+        ensures { result ≡ every (λ place. junction_sound limits.rules limits.nodes limits.locks (get_or self.now.junctions place rest_junction)) count }
     {
         self.junctions[..count]
             .iter()

@@ -15,10 +15,10 @@ impl State {
     // on less often. Any list of numbers is a route: a number that names no sender is passed over. The junctions that are open stand by their place and not
     // on a stack, since such a list need not nest.
     #[tactic(auto, using(route::proofs::Legs::node_bound, route::proofs::Legs::into_bound, route::proofs::Legs::out_bound))]
-    pub(crate) fn moving(self, route: &[u16]) -> Stepped
-        ensures { step_told result ≡ moving_along route.now self }
+    pub(crate) fn moving(&self, route: &[u16]) -> Stepped
+        ensures { step_told result ≡ moving_along route.now self.now }
     {
-        let mut next = self;
+        let mut next = *self;
         let mut events = [None; NODES];
         let mut opened = [Entered {
             arrival: Car::Idle,
@@ -30,9 +30,11 @@ impl State {
         let mut wants = false;
         let mut passed: u8 = 0;
         for &number in route {
-            match route::leg_of(number) {
-                None => {}
-                Some(Leg::At(place)) => {
+            let Some(leg) = route::leg_of(number) else {
+                continue;
+            };
+            match leg {
+                Leg::At(place) => {
                     let node = self.nodes[place as usize];
                     let turn = turns::turn_of(node, self.plan.rules, place + 1, last);
                     astray |= node.astray(place + 1, last);
@@ -42,7 +44,7 @@ impl State {
                     last = node.car;
                     passed = place + 1;
                 }
-                Some(Leg::Into(place)) => {
+                Leg::Into(place) => {
                     let junction = self.junctions[place as usize];
                     opened[place as usize] = Entered {
                         arrival: last,
@@ -52,7 +54,7 @@ impl State {
                     wants = false;
                     last = junction.subring;
                 }
-                Some(Leg::Out { inner, place }) => {
+                Leg::Out { inner, place } => {
                     let junction = self.junctions[place as usize];
                     let entered = opened[place as usize];
                     next.junctions[place as usize] = junction.turn(Passage {

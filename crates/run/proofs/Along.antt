@@ -76,7 +76,7 @@ module _ (P : Reached → Type 0) (Q : Course → Type 0)
       told _ run (on_steps ceiling schedule) (λ next q. stepped ceiling next.left next (on_items ceiling schedule) (λ other o. in_order ceiling _ other o) q) p
   going ceiling schedule run Ended p = closed _ run p
   going ceiling schedule run Cut p = closed _ run p
-  going ceiling schedule run (Refused refusal) p = last _ run p
+  going ceiling schedule run (Refused number place) p = last _ run p
 
   pub along : (ceiling : ℕ) (schedule : List ℕ) (run : Run) → run.over ≡ false → P run.reached → Q (course ceiling schedule run)
   unfolding course

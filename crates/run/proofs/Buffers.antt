@@ -96,7 +96,7 @@ next_in ceiling schedule run Items o p =
     within (suc (to_go schedule (nodes_of run) run)) ceiling schedule (nodes_of run) run run (sets_out ceiling schedule (nodes_of run) run o p refl) q
 next_in ceiling schedule run Ended o p = next run refl (simp (o, p))
 next_in ceiling schedule run Cut o p = next run refl (simp (o, p))
-next_in ceiling schedule run (Refused refusal) o p = next run refl (simp (o, p))
+next_in ceiling schedule run (Refused number place) o p = next run refl (simp (o, p))
 
 next_by : (ceiling : ℕ) (schedule : List ℕ) (run : Run) (over : Bool) → run.over ≡ over → Next ceiling schedule run
 unfolding ready

@@ -11,7 +11,6 @@ use Rattle.lists.proofs.Laws.{and_left, and_right}
 use Rattle.items.specs.declared.Item.{Item}
 use Rattle.items.specs.declared.Item.TheVariants.{Steps, Act}
 use Rattle.items.specs.declared.ItemRefusal.{ItemRefusal}
-use Rattle.nightfile.specs.declared.FileRefusal.{FileRefusal}
 use Rattle.wording.specs.declared.Line.{Line}
 use Rattle.course.specs.declared.Run.{Run}
 use Rattle.course.specs.declared.Phase.{Phase}
@@ -105,10 +104,10 @@ past_phase : (run : Run) (phase : Phase) → run.phase ≡ phase → (past run).
 unfolding past
 past_phase run phase p = p
 
-refused_goes : (ceiling : ℕ) (schedule : List ℕ) (run : Run) (refusal : FileRefusal) → run.over ≡ false → run.phase ≡ Refused refusal
-    → course ceiling schedule run ≡ says (refusal_line refusal run) run (all_said run) (silence (all_said run))
+refused_goes : (ceiling : ℕ) (schedule : List ℕ) (run : Run) (number place : ℕ) → run.over ≡ false → run.phase ≡ Refused number place
+    → course ceiling schedule run ≡ says (refusal_line number place run) run (all_said run) (silence (all_said run))
 unfolding course course_in
-refused_goes ceiling schedule run refusal o p = simp (o, p)
+refused_goes ceiling schedule run number place o p = simp (o, p)
 
 -- by what the run is at
 pub goes_in : (ceiling : ℕ) (schedule : List ℕ) (run : Run) (phase : Phase) → run.over ≡ false → run.phase ≡ phase → ready_in phase schedule run ≡ true
@@ -117,8 +116,8 @@ unfolding ready_in saying_in end_saying saying
 goes_in ceiling schedule run Items o p e = items_go ceiling schedule run (ltb run.next (nodes_of run)) (record { not_over = o; at-items = p }) refl e
 goes_in ceiling schedule run Ended o p e = end_goes ceiling schedule run (ltb run.next (locks_of run)) (ended_closes ceiling schedule run o p) (ended_closes ceiling schedule (past run) (past_open run o) (past_phase run Ended p)) refl
 goes_in ceiling schedule run Cut o p e = end_goes ceiling schedule run (ltb run.next (locks_of run)) (cut_closes ceiling schedule run o p) (cut_closes ceiling schedule (past run) (past_open run o) (past_phase run Cut p)) refl
-goes_in ceiling schedule run (Refused refusal) o p e =
-    refused_goes ceiling schedule run refusal o p ∙ ap (says (refusal_line refusal run) run (all_said run)) (sym (said_silent ceiling schedule run))
+goes_in ceiling schedule run (Refused number place) o p e =
+    refused_goes ceiling schedule run number place o p ∙ ap (says (refusal_line number place run) run (all_said run)) (sym (said_silent ceiling schedule run))
 
 -- a run that is ready, and not over
 pub ready_goes : (ceiling : ℕ) (schedule : List ℕ) (run : Run) → ready schedule run ≡ true → run.over ≡ false → Goes ceiling schedule run (saying_now schedule run)

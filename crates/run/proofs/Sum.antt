@@ -1,6 +1,5 @@
 -- The steps of a run are the smaller of the ceiling and the schedule's sum, and it is cut where the sum is above the ceiling; a refused file gives
 -- only its number, with 6 the place of the first bad item.
-use Rattle.std.specs.Prelude.{Result, Ok, Err}
 use Prim.Native.Nat.{ℕ, zero, suc, ◌+◌, ◌-◌, ◌≤◌, ◌<◌, min}
 use mathlib.Core.Path.{◌≡◌, refl, ◌∙◌, sym, ap, subst}
 use mathlib.Core.Bool.{Bool, true, false, cond}
@@ -8,19 +7,16 @@ use mathlib.Core.List.{List, [], ◌∷◌, append-nil}
 use native.Mathlib.Nat.{zero-add}
 use native.Mathlib.Omega.{arith}
 use lib.Dec.{eqb, ltb}
-use borrow.Author.Tests.{eqb-true, eqb-false, ltb-true, ltb-false, lt-ltb, le-ltb}
+use borrow.Author.Tests.{eqb-true, eqb-false, ltb-true, ltb-false, lt-ltb, le-ltb, eq-eqb, ne_eqb}
 use Rattle.items.specs.declared.Item.{Item}
 use Rattle.items.specs.declared.Item.TheVariants.{Steps, Act}
-use Rattle.nightfile.specs.declared.FileRefusal.{FileRefusal}
-use Rattle.nightfile.specs.declared.FileRefusal.TheVariants.{WrongLength, WrongContents, WrongPlanLength, PlanOutOfRange, BytesLeftOver, BadItem}
-use Rattle.nightfile.specs.File.{file_number, Told, number_and_place, file_told, file_place, refusal_number, refusal_place, file_answer, file_answer_number, file_answer_place, schedule_part}
-use Rattle.nightfile.proofs.Laws.{answer_tells}
+use Rattle.nightfile.specs.File.{file_number, Told, number_and_place, file_told, file_place, schedule_part}
 use Rattle.nightfile.proofs.FirstBad.{six_tells_the_first_bad, only_six_tells_a_place}
 use Rattle.course.specs.declared.Reached.{Reached}
 use Rattle.course.specs.declared.Run.{Run}
 use Rattle.course.specs.declared.Phase.{Phase}
-use Rattle.course.specs.declared.Phase.TheVariants.{Items, Ended, Cut, Refused}
-use Rattle.course.specs.Standing.{nodes_of, first_phase, beginning, reached_next, one_step, past, steps_item, action_item, at_end, all_said}
+use Rattle.course.specs.declared.Phase.TheVariants.{Ended, Cut, Refused}
+use Rattle.course.specs.Standing.{nodes_of, beginning, reached_next, one_step, past, steps_item, action_item, at_end, all_said}
 use Rattle.lines.specs.Line.{line}
 use Rattle.run.specs.Filling.{texts}
 use Rattle.wording.specs.Wording.{text, more_of, numbers_of, line_of, refusal_says}
@@ -28,11 +24,11 @@ use Rattle.course.specs.Wording.{event_here, is_event, is_cut, refusal_line}
 use Rattle.course.specs.Whole.{Course, says, silence, telling, telling_all, closing, closing_all, many_steps, items, items_from, steps_in, on_items, on_steps, working, course_in, course}
 use Rattle.course.proofs.Moves.{AtItems, course-items, with_next}
 use Rattle.run.specs.Theorems.{TheSmallerOfBoth, CutAboveTheCeiling, OnlyTheNumberAndPlace, TheNumberInTheResult, ThePlaceInTheResult, SixNamesTheFirstBad, OthersStay0}
-use Rattle.run.specs.Outcomes.{refusal_of, number_told, place_told, outcome_of, file_course, file_outcome, file_text, schedule_sum}
+use Rattle.run.specs.Outcomes.{refusal_of, place_of, outcome_of, file_course, file_outcome, file_text, schedule_sum}
 
 -- what a phase tells of a refusal: its number and the place beside it
 abbrev told : Phase → Told
-told phase = record { number = number_told (refusal_of phase); place = place_told (refusal_of phase) }
+told phase = record { number = refusal_of phase; place = place_of phase }
 
 abbrev nothing : Told
 nothing = record { number = 0; place = 0 }
@@ -85,7 +81,7 @@ ends_step : (ceiling sum n : ℕ) (run : Run) (then : Run → Course) (room : Bo
     → ((r : Run) → r.reached.steps ≡ run.reached.steps + 1 → r.reached.steps ≤ ceiling → r.at ≡ run.at → Ends ceiling sum (then r))
     → ltb run.reached.steps ceiling ≡ room
     → Ends ceiling sum (cond room (telling_all (one_step run) then) (closing_all (at_end Cut run)))
-unfolding telling_all one_step reached_next closing_all is_cut refusal_of number_told place_told
+unfolding telling_all one_step reached_next closing_all is_cut refusal_of place_of
 ends_step ceiling sum n run then true most less again e =
     let under : run.reached.steps < ceiling = ltb-true run.reached.steps ceiling e in
     ends_telling ceiling sum _ (one_step run) then (λ next. again (with_next (one_step run) next) refl (omega (arith, under)) refl)
@@ -106,7 +102,7 @@ ends_steps ceiling sum (suc n) run then most less again =
 
 -- all items
 ends_items : (ceiling sum : ℕ) (l : List Item) (run : Run) → run.reached.steps ≤ ceiling → sum ≡ run.reached.steps + steps_in l → Ends ceiling sum (items ceiling l run)
-unfolding items steps_in closing_all is_cut refusal_of number_told place_told steps_item action_item says
+unfolding items steps_in closing_all is_cut refusal_of place_of steps_item action_item says
 ends_items ceiling sum [] run most e =
     let under : sum ≤ ceiling = omega (arith, e) in
     ends_closing ceiling sum _ Ended run (omega (arith, e)) (sym (le-ltb ceiling sum under)) refl
@@ -133,23 +129,9 @@ run_ends ceiling schedule run i most =
 
 -- an accepted file: "the steps it reports are the smaller of the ceiling and the schedule's sum"; "C where the schedule's sum is above
 -- the ceiling"
-refusal_some : (refusal : FileRefusal) → refusal_number refusal ≡ 0 → ⊥
-unfolding refusal_number
-refusal_some WrongLength e = omega (arith, e)
-refusal_some WrongContents e = omega (arith, e)
-refusal_some WrongPlanLength e = omega (arith, e)
-refusal_some PlanOutOfRange e = omega (arith, e)
-refusal_some BytesLeftOver e = omega (arith, e)
-refusal_some (BadItem place) e = omega (arith, e)
-
-accepted_phase : (answer : Result Unit FileRefusal) → file_answer_number answer ≡ 0 → first_phase answer ≡ Items
-unfolding file_answer_number first_phase
-accepted_phase (Ok accepted) e = refl
-accepted_phase (Err refusal) e = absurd (refusal_some refusal e)
-
 pub beginning-items : (file : List ℕ) → file_number file ≡ 0 → AtItems (beginning file)
 unfolding beginning
-beginning-items file e = record { not_over = refl; at-items = accepted_phase (file_answer file) ((answer_tells file).0 ∙ e) }
+beginning-items file e = record { not_over = refl; at-items = simp (eq-eqb _ _ e) }
 
 file_ends : (ceiling : ℕ) (file : List ℕ) → file_number file ≡ 0 → Ends ceiling (schedule_sum (schedule_part file)) (file_course ceiling file)
 unfolding file_course schedule_sum beginning
@@ -165,53 +147,23 @@ pub file_cut : CutAboveTheCeiling
 unfolding file_outcome outcome_of
 file_cut ceiling file e = (file_ends ceiling file e).cut
 
--- a refused file: why it is refused, with the number and the place that this tells
-pub record Why (file : List ℕ) : Type 0 where
-  pub refusal : FileRefusal
-  pub answer : file_answer file ≡ Err refusal
-  pub number : refusal_number refusal ≡ file_number file
-  pub place : refusal_place refusal ≡ file_place file
+-- a refused file: only the line with its number and the place beside it
+pub refused-course : (ceiling : ℕ) (file : List ℕ) → (file_number file ≡ 0 → ⊥)
+    → file_course ceiling file ≡ says (refusal_line (file_number file) (file_place file) (beginning file)) (beginning file) (all_said (beginning file)) (silence (all_said (beginning file)))
+unfolding file_course course course_in beginning
+refused-course ceiling file e = simp (ne_eqb _ _ e)
 
-accepted_number : (file : List ℕ) (accepted : Unit {0}) → file_answer_number (Ok accepted) ≡ file_number file → file_number file ≡ 0
-unfolding file_answer_number
-accepted_number file accepted e = sym e
-
-refused_why : (file : List ℕ) (refusal : FileRefusal) → file_answer file ≡ Err refusal
-    → (file_answer_number (Err refusal) ≡ file_number file) × (file_answer_place (Err refusal) ≡ file_place file) → Why file
-unfolding file_answer_number file_answer_place
-refused_why file refusal a told = record { refusal = refusal; answer = a; number = told.0; place = told.1 }
-
-pub why : (file : List ℕ) → (file_number file ≡ 0 → ⊥) → Why file
-why file e = go (file_answer file) refl
-  where
-    tells : (answer : Result Unit FileRefusal) → file_answer file ≡ answer → (file_answer_number answer ≡ file_number file) × (file_answer_place answer ≡ file_place file)
-    tells answer a = let told = answer_tells file in (ap file_answer_number (sym a) ∙ told.0, ap file_answer_place (sym a) ∙ told.1)
-
-    go : (answer : Result Unit FileRefusal) → file_answer file ≡ answer → Why file
-    go (Ok accepted) a = absurd (e (accepted_number file accepted (tells (Ok accepted) a).0))
-    go (Err refusal) a = refused_why file refusal a (tells (Err refusal) a)
-
--- only the line with its number and the place beside it
-pub refused-course : (ceiling : ℕ) (file : List ℕ) (refused : file_number file ≡ 0 → ⊥)
-    → file_course ceiling file ≡ says (refusal_line (why file refused).refusal (beginning file)) (beginning file) (all_said (beginning file)) (silence (all_said (beginning file)))
-unfolding file_course course course_in beginning first_phase
-refused-course ceiling file e = simp (why file e).answer
-
-refused_phase : (file : List ℕ) (refused : file_number file ≡ 0 → ⊥) → (beginning file).phase ≡ Refused (why file refused).refusal
-unfolding beginning first_phase
-refused_phase file e = simp (why file e).answer
+refused_phase : (file : List ℕ) → (file_number file ≡ 0 → ⊥) → (beginning file).phase ≡ Refused (file_number file) (file_place file)
+unfolding beginning
+refused_phase file e = simp (ne_eqb _ _ e)
 
 pub refused-text : OnlyTheNumberAndPlace
 unfolding file_text says silence texts text numbers_of more_of refusal_line refusal_says line_of beginning
-refused-text ceiling file e =
-    ap (λ (c : Course). texts c.lines) (refused-course ceiling file e) ∙ append-nil _
-    ∙ (λ i. line 0 81 ((why file e).number i ∷ (why file e).place i ∷ []))
+refused-text ceiling file e = ap (λ (c : Course). texts c.lines) (refused-course ceiling file e) ∙ append-nil _
 
 refused_told : (ceiling : ℕ) (file : List ℕ) → (file_number file ≡ 0 → ⊥) → told (file_course ceiling file).end.phase ≡ file_told file
-unfolding says silence all_said refusal_of number_told place_told file_place file_told number_and_place
-refused_told ceiling file e =
-    ap (λ (c : Course). told c.end.phase) (refused-course ceiling file e) ∙ ap told (refused_phase file e)
-    ∙ (λ i. record { number = (why file e).number i; place = (why file e).place i })
+unfolding says silence all_said refusal_of place_of file_place file_told number_and_place
+refused_told ceiling file e = ap (λ (c : Course). told c.end.phase) (refused-course ceiling file e) ∙ ap told (refused_phase file e)
 
 accepted_told : (file : List ℕ) → file_number file ≡ 0 → nothing ≡ file_told file
 unfolding file_told number_and_place

@@ -44,7 +44,7 @@ saying_in Items schedule run =
     cond (ltb run.next (nodes_of run)) (Some (saying (event_line run) (past run))) (answer_saying (answer_here schedule run) run)
 saying_in Ended schedule run = Some (end_saying run)
 saying_in Cut schedule run = Some (end_saying run)
-saying_in (Refused refusal) schedule run = Some (saying (refusal_line refusal run) (all_said run))
+saying_in (Refused number place) schedule run = Some (saying (refusal_line number place run) (all_said run))
 
 unfoldable pub saying_now : List ℕ → Run → Option Saying
 saying_now schedule run = saying_in run.phase schedule run

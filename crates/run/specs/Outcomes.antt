@@ -1,7 +1,6 @@
 -- 01, "The run and its lines": the result of a run, and the lines of a file.
-use Rattle.std.specs.Prelude.{ℕ, List, Option, Some, None}
-use Rattle.nightfile.specs.declared.FileRefusal.{FileRefusal}
-use Rattle.nightfile.specs.File.{refusal_number, refusal_place, schedule_part}
+use Rattle.std.specs.Prelude.{ℕ, List}
+use Rattle.nightfile.specs.File.{schedule_part}
 use Rattle.tally.specs.Tally.{sum_of}
 use Rattle.course.specs.declared.Run.{Run}
 use Rattle.course.specs.declared.Phase.{Phase}
@@ -12,28 +11,26 @@ use Rattle.course.specs.Wording.{is_cut}
 use Rattle.course.specs.Whole.{Course, course, items_from, steps_in}
 use Rattle.run.specs.Filling.{texts}
 
--- why the file is refused, if it is
-unfoldable pub refusal_of : Phase → Option FileRefusal
-refusal_of Items = None
-refusal_of Ended = None
-refusal_of Cut = None
-refusal_of (Refused refusal) = Some refusal
-
--- the number that a result tells of a refusal; 0: none
-unfoldable pub number_told : Option FileRefusal → ℕ
-number_told None = 0
-number_told (Some refusal) = refusal_number refusal
+-- the number that the file is refused with; 0: none
+unfoldable pub refusal_of : Phase → ℕ
+refusal_of Items = 0
+refusal_of Ended = 0
+refusal_of Cut = 0
+refusal_of (Refused number place) = number
 
 -- 02, item 3: the place that is told beside that number; 0: none
-unfoldable pub place_told : Option FileRefusal → ℕ
-place_told None = 0
-place_told (Some refusal) = refusal_place refusal
+unfoldable pub place_of : Phase → ℕ
+place_of Items = 0
+place_of Ended = 0
+place_of Cut = 0
+place_of (Refused number place) = place
 
 -- the numbers of a run where it stands
 unfoldable pub outcome_of : Run → Outcome
 outcome_of run =
     record {
       refusal = refusal_of run.phase;
+      place = place_of run.phase;
       cut = is_cut run.phase;
       steps = run.reached.steps;
       busy = run.reached.tally.busy;

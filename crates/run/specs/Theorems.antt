@@ -7,7 +7,7 @@ use Rattle.course.specs.declared.Run.{Run}
 use Rattle.course.specs.Standing.{nodes_of, beginning}
 use Rattle.course.specs.Whole.{Course, course}
 use Rattle.run.specs.Filling.{texts, written, filling, filled_buffer, in_buffers, after_buffers}
-use Rattle.run.specs.Outcomes.{number_told, place_told, file_course, file_outcome, file_text, schedule_sum}
+use Rattle.run.specs.Outcomes.{file_course, file_outcome, file_text, schedule_sum}
 
 -- "the steps it reports are the smaller of the ceiling and the schedule's sum"
 abbrev pub TheSmallerOfBoth : Type 0
@@ -26,17 +26,17 @@ OnlyTheNumberAndPlace =
 
 -- the result has the file's number, 0 where the file is accepted, and its place, 0 where none is told
 abbrev pub TheNumberInTheResult : Type 0
-TheNumberInTheResult = (ceiling : ℕ) (file : List ℕ) → number_told (file_outcome ceiling file).refusal ≡ file_number file
+TheNumberInTheResult = (ceiling : ℕ) (file : List ℕ) → (file_outcome ceiling file).refusal ≡ file_number file
 
 abbrev pub ThePlaceInTheResult : Type 0
-ThePlaceInTheResult = (ceiling : ℕ) (file : List ℕ) → place_told (file_outcome ceiling file).refusal ≡ file_place file
+ThePlaceInTheResult = (ceiling : ℕ) (file : List ℕ) → (file_outcome ceiling file).place ≡ file_place file
 
 -- so for 6 the one line and the result name the first bad item of the file's schedule
 pub record NamesTheFirstBad (ceiling : ℕ) (file : List ℕ) : Type 0 where
   pub place : ℕ
   pub first : IsFirstBad (schedule_body file) place
   pub text : file_text ceiling file ≡ line 0 81 (6 ∷ place ∷ [])
-  pub result : place_told (file_outcome ceiling file).refusal ≡ place
+  pub result : (file_outcome ceiling file).place ≡ place
 
 abbrev pub SixNamesTheFirstBad : Type 0
 SixNamesTheFirstBad = (ceiling : ℕ) (file : List ℕ) → file_number file ≡ 6 → NamesTheFirstBad ceiling file

@@ -158,9 +158,9 @@ pub(crate) fn say(run: &mut Run, schedule: &[u8]) -> Option<Line>
     match run.phase {
         Phase::Items => say_items(run, schedule),
         Phase::Ended | Phase::Cut => Some(say_end(run)),
-        Phase::Refused(refusal) => {
+        Phase::Refused { number, place } => {
             run.over = true;
-            Some(wording::refusal_line(run.reached.steps, refusal.number(), refusal.place()))
+            Some(wording::refusal_line(run.reached.steps, number, place))
         }
     }
 }

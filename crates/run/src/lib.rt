@@ -7,7 +7,6 @@ ghost use Rattle.run.specs.Filling.{filling, filled_buffer};
 ghost use Rattle.run.specs.Outcomes.{file_outcome};
 
 use course::Run;
-use nightfile::FileRefusal;
 use tally::LOCKS;
 
 mod current;
@@ -24,11 +23,13 @@ pub struct Filled {
     pub used: usize,
 }
 
-// The result of a run: why the file is refused, if it is, whether it was cut at the ceiling, the steps done, the busy steps of each lock, all grants
-// and all N events.
+// The result of a run: the number of a refused file or 0, with 6 the place of the first bad item (else 0), whether it was cut at
+// the ceiling, the steps done, the busy steps of each lock, all grants and all N events. Number and place, and no Option of a refusal: a made-up run's
+// phase has any number (`course::Phase`).
 #[derive(Clone, Copy)]
 pub struct Outcome {
-    pub refusal: Option<FileRefusal>,
+    pub refusal: u8,
+    pub place: usize,
     pub cut: bool,
     pub steps: u64,
     pub busy: [u64; LOCKS],

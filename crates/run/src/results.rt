@@ -1,21 +1,31 @@
 // The result of a run: a file run to its end under a ceiling.
 ghost use Rattle.std.specs.Prelude.{◌≡◌};
 ghost use Rattle.course.specs.Whole.{course};
-ghost use Rattle.run.specs.Outcomes.{refusal_of, outcome_of};
+ghost use Rattle.run.specs.Outcomes.{refusal_of, place_of, outcome_of};
 
 use crate::{Outcome, current};
 use course::{Phase, Run};
-use nightfile::FileRefusal;
 use tally::Tally;
 
-// Why the file is refused, if it is.
+// The number that a file is refused with; 0: none.
 #[tactic(auto, unfolding(crate::specs::Outcomes::refusal_of))]
-fn refusal_of(phase: Phase) -> Option<FileRefusal>
+fn refusal_of(phase: Phase) -> u8
     ensures { result ≡ refusal_of phase }
 {
     match phase {
-        Phase::Refused(refusal) => Some(refusal),
-        _ => None,
+        Phase::Refused { number, .. } => number,
+        _ => 0,
+    }
+}
+
+// The place that is told beside that number; 0: none.
+#[tactic(auto, unfolding(crate::specs::Outcomes::place_of))]
+fn place_of(phase: Phase) -> usize
+    ensures { result ≡ place_of phase }
+{
+    match phase {
+        Phase::Refused { place, .. } => place,
+        _ => 0,
     }
 }
 
@@ -44,6 +54,7 @@ pub(crate) fn numbers(run: Run) -> Outcome
     } = run.reached.tally;
     Outcome {
         refusal: refusal_of(run.phase),
+        place: place_of(run.phase),
         cut: current::is_cut(run.phase),
         steps: run.reached.steps,
         busy,

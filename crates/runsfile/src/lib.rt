@@ -46,7 +46,10 @@ pub fn read_runs<R: Read>(reader: &mut R, rows: &mut [u64]) -> Result<Gather>
     Ok(runs.state)
 }
 
-// Writes which line of the text is no part of a run, by its number from 1, and what is wrong.
-pub fn write_fault<W: Write>(out: &mut W, fault: Fault, line: u64) -> Result<()> {
-    writeln!(out, "line {line}: {fault}")
+// Writes which line of the text is no part of a run, by its number from 1, and what is wrong, if anything is.
+pub fn write_fault<W: Write>(out: &mut W, fault: Option<Fault>, line: u64) -> Result<()> {
+    match fault {
+        None => writeln!(out, "line {line}: nothing is wrong"),
+        Some(fault) => writeln!(out, "line {line}: {fault}"),
+    }
 }

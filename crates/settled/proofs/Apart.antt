@@ -18,6 +18,9 @@ use Rattle.ring.specs.declared.Stepped.{Stepped}
 use Rattle.ring.specs.State.{plan_answer_number, start_told}
 use Rattle.ring.specs.Actions.{action_told}
 use Rattle.ring.specs.Step.{step_answer_number, step_told}
+use Rattle.nightfile.specs.declared.FileRefusal.{FileRefusal}
+use Rattle.nightfile.specs.declared.FileRefusal.TheVariants.{WrongLength, WrongContents, WrongPlanLength, PlanOutOfRange as PlanWrong, BytesLeftOver, BadItem}
+use Rattle.nightfile.specs.File.{Told as FileTold, refusal_number, refusal_place, file_answer_number, file_answer_place, file_answer_told}
 use Rattle.lines.specs.declared.TooShort.{TooShort}
 use Rattle.lines.specs.Line.{Told as LineTold, written_number, written_length, written_told}
 
@@ -63,6 +66,20 @@ step_answer_lem (Err Bad) = refl
 step_answer_lem (Err QueueFull) = refl
 step_answer_lem (Err Astray) = refl
 
+file_answer : FileTold → Result Unit FileRefusal
+file_answer told =
+    get_or (Ok tt ∷ Err WrongLength ∷ Err WrongContents ∷ Err WrongPlanLength ∷ Err PlanWrong ∷ Err BytesLeftOver ∷ Err (BadItem told.place) ∷ []) told.number (Ok tt)
+
+file_answer_lem : (x : Result Unit FileRefusal) → file_answer (file_answer_told x) ≡ x
+unfolding file_answer file_answer_told file_answer_number file_answer_place refusal_number refusal_place
+file_answer_lem (Ok accepted) = refl
+file_answer_lem (Err WrongLength) = refl
+file_answer_lem (Err WrongContents) = refl
+file_answer_lem (Err WrongPlanLength) = refl
+file_answer_lem (Err PlanWrong) = refl
+file_answer_lem (Err BytesLeftOver) = refl
+file_answer_lem (Err (BadItem place)) = refl
+
 written_answer : LineTold → Result ℕ TooShort
 written_answer told = cond (eqb told.number 0) (Ok told.length) (Err (record {}))
 
@@ -72,6 +89,9 @@ written_answer_lem (Ok n) = refl
 written_answer_lem (Err refusal) = refl
 
 -- so numbers and what is told tell answers apart
+pub file_apart : (x y : Result Unit FileRefusal) → file_answer_told x ≡ file_answer_told y → x ≡ y
+file_apart = read_back file_answer_told file_answer file_answer_lem
+
 pub written_apart : (x y : Result ℕ TooShort) → written_told x ≡ written_told y → x ≡ y
 written_apart = read_back written_told written_answer written_answer_lem
 

@@ -4,26 +4,29 @@ use Prim.Native.Nat.{ℕ, ◌-◌}
 use mathlib.Core.Path.{◌≡◌, refl, ap}
 use mathlib.Core.List.{[], ◌∷◌}
 use lib.ListN.{get_or}
-use Rattle.sums.specs.declared.Sheet.{Sheet}
 use Rattle.sums.specs.declared.SheetRefusal.{SheetRefusal}
 use Rattle.sums.specs.declared.SheetRefusal.TheVariants.{TooManyRuns, LocksWrong, OutOfRange}
-use Rattle.sums.specs.Sheet.{Told, refusal_number, sheet_answer_number, sheet_given, sheet_told}
+use Rattle.sums.specs.declared.MadeSheet.{MadeSheet}
+use Rattle.sums.specs.Sheet.{Told, refusal_number, sheet_answer_number, sheet_told}
 use Rattle.settled.specs.Sheet.{LineReader, Sums, GatherOf}
 use Rattle.settled.proofs.Apart.{same, read_back, written_apart}
 
--- a sheet or its refusal read back from what is told
-sheet_answer : Told → Result Sheet SheetRefusal
-sheet_answer told = get_or (Ok told.sheet ∷ Err TooManyRuns ∷ Err LocksWrong ∷ Err OutOfRange ∷ []) (told.number - 23) (Ok told.sheet)
+-- a sheet's answer read back from its number, and the whole from what is told
+sheet_answer : ℕ → Result Unit SheetRefusal
+sheet_answer number = get_or (Ok tt ∷ Err TooManyRuns ∷ Err LocksWrong ∷ Err OutOfRange ∷ []) (number - 23) (Ok tt)
 
-sheet_answer_lem : (x : Result Sheet SheetRefusal) → sheet_answer (sheet_told x) ≡ x
-unfolding sheet_answer sheet_told sheet_answer_number sheet_given refusal_number
-sheet_answer_lem (Ok sheet) = refl
+sheet_answer_lem : (x : Result Unit SheetRefusal) → sheet_answer (sheet_answer_number x) ≡ x
+unfolding sheet_answer sheet_answer_number refusal_number
+sheet_answer_lem (Ok nothing) = refl
 sheet_answer_lem (Err TooManyRuns) = refl
 sheet_answer_lem (Err LocksWrong) = refl
 sheet_answer_lem (Err OutOfRange) = refl
 
-sheet_apart : (x y : Result Sheet SheetRefusal) → sheet_told x ≡ sheet_told y → x ≡ y
-sheet_apart = read_back sheet_told sheet_answer sheet_answer_lem
+sheet_apart : (x y : MadeSheet) → sheet_told x ≡ sheet_told y → x ≡ y
+unfolding sheet_told
+sheet_apart x y e =
+    read_back sheet_told (λ (told : Told). record { answer = sheet_answer told.number; sheet = told.sheet })
+    (λ (made : MadeSheet). ap (λ (answer : Result Unit SheetRefusal). record { answer = answer; sheet = made.sheet }) (sheet_answer_lem made.answer)) x y e
 
 pub line_reader : LineReader
 line_reader =

@@ -2,19 +2,18 @@
 // one line, "0 Q number 0". Text that is no run is told on standard error, and nothing is then written to standard output.
 #![tactic(auto)]
 
-ghost use Rattle.std.specs.Prelude.{◌≡◌, true, false, OnOk, Result};
+ghost use Rattle.std.specs.Prelude.{◌≡◌, true, false, OnOk};
 ghost use Rattle.std.specs.Io.KnownBytes.{Appends, Keeps};
 ghost use Rattle.gather.specs.Gathering.{fault_of, is_fine, whole_rows};
 ghost use Rattle.sums.specs.Sheet.{sheet_told, making};
 ghost use Rattle.sums.specs.Text.{sheet_text};
-ghost use Rattle.sums.specs.declared.Sheet.{Sheet};
-ghost use Rattle.sums.specs.declared.SheetRefusal.{SheetRefusal};
+ghost use Rattle.sums.specs.declared.MadeSheet.{MadeSheet};
 
 use gather::Gather;
 use std::io;
 use std::io::{Error, Write};
 use std::process::ExitCode;
-use sums::{Sheet, SheetRefusal};
+use sums::MadeSheet;
 
 // Room for the rows of 401 runs: one more than a sheet takes.
 const ROOM: usize = 77794;
@@ -27,7 +26,7 @@ fn say_refused<W: Write>(told: &mut W, refused: u64) {
 }
 
 // Writes the sheet: its whole text, where no write fails.
-fn write_out<W: Write>(out: &mut W, made: Result<Sheet, SheetRefusal>) -> io::Result<()>
+fn write_out<W: Write>(out: &mut W, made: MadeSheet) -> io::Result<()>
     ensures { OnOk result (Appends (W.contents out.old) (W.contents out.new) (sheet_text made)) }
 {
     let mut buffer = [0u8; 65536];
@@ -43,7 +42,7 @@ fn answer<W: Write, T: Write>(
     state: Gather,
     rows: &[u64],
 ) -> io::Result<()>
-    ensures sheet { is_fine (fault_of state) ≡ true → OnOk result ((made : Result Sheet SheetRefusal) × (sheet_told made ≡ making (whole_rows state rows.now))
+    ensures sheet { is_fine (fault_of state) ≡ true → OnOk result ((made : MadeSheet) × (sheet_told made ≡ making (whole_rows state rows.now))
         × Appends (W.contents out.old) (W.contents out.new) (sheet_text made)) }
     ensures none { is_fine (fault_of state) ≡ false → Keeps (W.contents out.old) (W.contents out.new) }
 {
@@ -54,7 +53,7 @@ fn answer<W: Write, T: Write>(
         }
         Some(fault) => {
             let _ = told.write_all(b"sheet: ");
-            let _ = runsfile::write_fault(told, fault, gather::line_number(state));
+            let _ = runsfile::write_fault(told, Some(fault), gather::line_number(state));
             Ok(())
         }
     }

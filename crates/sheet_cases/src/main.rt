@@ -43,7 +43,11 @@ fn show_read<R: Env + Files + Print>(
     let expected = case.open(b".bad").is_ok();
     case.show(expected)?;
     print!(case.rt; "    ")?;
-    runsfile::write_fault(&mut io::writer(case.rt), fault, gather::line_number(state))?;
+    runsfile::write_fault(
+        &mut io::writer(case.rt),
+        Some(fault),
+        gather::line_number(state),
+    )?;
     Ok(expected)
 }
 

@@ -12,8 +12,7 @@ use borrow.Author.Tests.{le-leb}
 use Rattle.lines.proofs.Behind.{written_by}
 use Rattle.lines.specs.declared.TooShort.{TooShort}
 use Rattle.lines.specs.Line.{Told, written_length, written_told}
-use Rattle.sums.specs.declared.Sheet.{Sheet}
-use Rattle.sums.specs.declared.SheetRefusal.{SheetRefusal}
+use Rattle.sums.specs.declared.MadeSheet.{MadeSheet}
 use Rattle.sums.specs.Text.{sheet_room, sheet_text, sheet_writing, buffer_after_sheet}
 
 told_length : (fits : Bool) (n : ℕ) {told : Told} → told ≡ cond fits (record { number = 0; length = n }) (record { number = 16; length = 0 })
@@ -25,7 +24,7 @@ within : (fits : Bool) (n : ℕ) (text rest buffer after : List ℕ) → n ≡ c
 within true n text rest buffer after e f = omega (arith, e, ap length f, length-append text rest)
 within false n text rest buffer after e f = omega (arith, e)
 
-pub length-within : (answer : Result ℕ TooShort) (n : ℕ) (buffer after : List ℕ) (made : Result Sheet SheetRefusal) → answer ≡ Ok n → written_told answer ≡ sheet_writing buffer made
+pub length-within : (answer : Result ℕ TooShort) (n : ℕ) (buffer after : List ℕ) (made : MadeSheet) → answer ≡ Ok n → written_told answer ≡ sheet_writing buffer made
     → after ≡ buffer_after_sheet buffer made → n ≤ length after
 unfolding written_told written_length sheet_writing buffer_after_sheet
 length-within answer n buffer after made e told f =
@@ -33,7 +32,7 @@ length-within answer n buffer after made e told f =
     (ap written_length (sym e) ∙ told_length (leb sheet_room (length buffer)) (length (sheet_text made)) told) f
 
 -- and where there is room for any sheet, it is written whole, at the buffer's start
-module _ (answer : Result ℕ TooShort) (buffer after : List ℕ) (made : Result Sheet SheetRefusal) (room : sheet_room ≤ length buffer)
+module _ (answer : Result ℕ TooShort) (buffer after : List ℕ) (made : MadeSheet) (room : sheet_room ≤ length buffer)
     (told : written_told answer ≡ sheet_writing buffer made) (rest : after ≡ buffer_after_sheet buffer made) where
   fits : leb sheet_room (length buffer) ≡ true
   fits = le-leb _ _ room

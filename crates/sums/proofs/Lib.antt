@@ -1,6 +1,7 @@
 pub mod Laws
 pub mod Written
 pub mod Ranges
+pub mod Made
 pub mod Accepted
 pub mod Order
 pub mod Theorems

@@ -1,5 +1,4 @@
 -- The statements of specs/Theorems, proved.
-use Rattle.std.specs.Prelude.{Ok, Err}
 use Prim.Native.Nat.{ℕ, ◌+◌, ◌*◌, ◌/◌, ◌≤◌, ◌<◌, min}
 use mathlib.Core.Path.{◌≡◌, refl, ap, ◌∙◌}
 use mathlib.Core.Bool.{true}
@@ -7,18 +6,19 @@ use mathlib.Core.List.{List, [], ◌∷◌}
 use native.Mathlib.Nat.{div-mul-le_self, lt-mul-div-succ, div-le_of_le-mul, mul_comm, zero-mul}
 use native.Mathlib.Omega.{arith}
 use lib.Dec.{eqb, lit≤}
-use lib.ListN.{get_or, get_or-map}
+use lib.ListN.{length, get_or, get_or-map}
 use borrow.Author.Tests.{eq-eqb, ne_eqb}
 use Rattle.lists.specs.Loops.{every, in_order}
 use Rattle.lists.specs.Refusal.{refused_if}
 use Rattle.lists.proofs.Laws.{total_at_most, total-at_most-times}
 use Rattle.lists.proofs.Tests.{by_test}
 use Rattle.lists.proofs.Places.{place_default}
+use Rattle.lines.specs.Line.{line}
 use Rattle.lines.proofs.Laws.{line-length_most}
 use Rattle.sums.specs.declared.Sheet.{Sheet}
 use Rattle.sums.specs.declared.SheetRow.{SheetRow}
-use Rattle.sums.specs.Sheet.{steps_place, busy_place, grants_place, failed_place, run_count, number_at, sheet_locks, too_many_runs, locks_right, run_in_range, runs_in_range, sheet_number, over_runs, share_of, lock_row, empty_row, rows_of, empty_sheet, sheet_of, refusal_number, making}
-use Rattle.sums.specs.Text.{sheet_text}
+use Rattle.sums.specs.Sheet.{steps_place, busy_place, grants_place, failed_place, run_count, number_at, sheet_locks, too_many_runs, locks_right, run_in_range, runs_in_range, sheet_number, over_runs, share_of, lock_row, empty_row, rows_of, empty_sheet, sheet_of, sheet_answer_number, making}
+use Rattle.sums.specs.Text.{sheet_rows, sheet_text}
 use Rattle.sums.specs.Theorems.{TheSumsOfTheRuns, NothingAt, NothingBehindTheLocks, TheShareIsRoundedDown, NoRunsNoSheet, RefusedIsEmpty, TheOrderDoesNotMatter, NothingElseIsRead, NothingWraps, RoomForEverySheet}
 use Rattle.sums.proofs.Laws.{row_behind}
 use Rattle.sums.proofs.Ranges.{run_steps, lock_fits}
@@ -162,5 +162,7 @@ nothing_wraps numbers lock none below =
 
 pub room_for_every_sheet : RoomForEverySheet
 unfolding sheet_text
-room_for_every_sheet (Ok sheet) = omega (arith, rows_most sheet (min sheet.locks 64))
-room_for_every_sheet (Err refusal) = omega (arith, line-length_most 0 81 (refusal_number refusal ∷ 0 ∷ []) (lit≤ tt))
+room_for_every_sheet made =
+    let rows : length (sheet_rows made.sheet (min made.sheet.locks 64)) ≤ 6720 = omega (arith, rows_most made.sheet (min made.sheet.locks 64)) in
+    let refusal : length (line 0 81 (sheet_answer_number made.answer ∷ 0 ∷ [])) ≤ 6720 = omega (arith, line-length_most 0 81 (sheet_answer_number made.answer ∷ 0 ∷ []) (lit≤ tt)) in
+    by_test (λ (text : List ℕ). length text ≤ 6720) (eqb (sheet_answer_number made.answer) 0) (λ e. rows) (λ e. refusal)

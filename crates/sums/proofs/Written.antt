@@ -1,11 +1,11 @@
 -- The rows of a sheet as they are written: their lengths, and the loop that puts one behind the other.
-use Rattle.std.specs.Prelude.{Result, Ok}
-use Prim.Native.Nat.{ℕ, zero, suc, ◌+◌, ◌-◌, ◌*◌, ◌≤◌}
+use Rattle.std.specs.Prelude.{Result, Ok, Err}
+use Prim.Native.Nat.{ℕ, zero, suc, ◌+◌, ◌-◌, ◌*◌, ◌≤◌, min}
 use mathlib.Core.Path.{◌≡◌, refl, sym, ap, ◌∙◌}
-use mathlib.Core.Bool.{Bool, true, cond}
+use mathlib.Core.Bool.{Bool, true, false, cond}
 use mathlib.Core.List.{List, [], ◌∷◌, ◌++◌, append_assoc}
 use native.Mathlib.Omega.{arith}
-use lib.Dec.{leb, lit≤}
+use lib.Dec.{eqb, leb, lit≤}
 use lib.ListN.{length, get_or, get_or-map, take, drop, length-append, length-drop}
 use lib.Seq.{take_at, drop_at, drop-drop}
 use borrow.Author.Tests.{le-leb}
@@ -18,7 +18,9 @@ use Rattle.lines.proofs.Laws.{line-length_most, row-length_most}
 use Rattle.sums.specs.declared.Sheet.{Sheet}
 use Rattle.sums.specs.declared.SheetRow.{SheetRow}
 use Rattle.sums.specs.declared.SheetRefusal.{SheetRefusal}
-use Rattle.sums.specs.Sheet.{empty_row}
+use Rattle.sums.specs.declared.SheetRefusal.TheVariants.{TooManyRuns, LocksWrong, OutOfRange}
+use Rattle.sums.specs.declared.MadeSheet.{MadeSheet}
+use Rattle.sums.specs.Sheet.{empty_row, refusal_number, sheet_answer_number}
 use Rattle.sums.specs.Text.{sheet_row, sheet_rows, sheet_text, sheet_writing, buffer_after_sheet}
 
 -- a lock's row is written where there is room for any row
@@ -100,8 +102,23 @@ sheet-row_read sheet lock {n} e =
 
 -- ---- the whole text
 
+-- of a sheet that was made, and of a refusal
+pub text_made : (made : MadeSheet) {nothing : Unit} → made.answer ≡ Ok nothing → sheet_text made ≡ sheet_rows made.sheet (min made.sheet.locks 64)
+unfolding sheet_text sheet_answer_number
+text_made made e = simp e
+
+refusal_some : (refusal : SheetRefusal) → eqb (refusal_number refusal) 0 ≡ false
+unfolding refusal_number
+refusal_some TooManyRuns = refl
+refusal_some LocksWrong = refl
+refusal_some OutOfRange = refl
+
+pub text-refused : (made : MadeSheet) {refusal : SheetRefusal} → made.answer ≡ Err refusal → sheet_text made ≡ line 0 81 (refusal_number refusal ∷ 0 ∷ [])
+unfolding sheet_text sheet_answer_number
+text-refused made {refusal} e = simp (e, refusal_some refusal)
+
 -- what is told and what stands in the buffer, where it has room for any sheet
-module _ (buffer : List ℕ) (made : Result Sheet SheetRefusal) (room : 6720 ≤ length buffer) where
+module _ (buffer : List ℕ) (made : MadeSheet) (room : 6720 ≤ length buffer) where
   pub sheet_told_lem : sheet_writing buffer made ≡ record { number = 0; length = length (sheet_text made) }
   unfolding sheet_writing
   sheet_told_lem = simp (le-leb 6720 (length buffer) room)

@@ -7,6 +7,7 @@ use Rattle.sums.specs.declared.Sheet.{Sheet}
 use Rattle.sums.specs.declared.SheetRow.{SheetRow}
 use Rattle.sums.specs.declared.SheetRefusal.{SheetRefusal}
 use Rattle.sums.specs.declared.SheetRefusal.TheVariants.{TooManyRuns, LocksWrong, OutOfRange}
+use Rattle.sums.specs.declared.MadeSheet.{MadeSheet}
 
 -- ---- the layout: one row of 194 numbers a run, the rows one behind the other
 
@@ -140,22 +141,17 @@ refusal_number LocksWrong = 25
 refusal_number OutOfRange = 26
 
 -- an answer's number in 02; 0 where the sheet was made
-unfoldable pub sheet_answer_number : Result Sheet SheetRefusal → ℕ
-sheet_answer_number (Ok sheet) = 0
+unfoldable pub sheet_answer_number : Result Unit SheetRefusal → ℕ
+sheet_answer_number (Ok nothing) = 0
 sheet_answer_number (Err refusal) = refusal_number refusal
-
--- the sheet that an answer gives: "a refusal gives an empty sheet"
-unfoldable pub sheet_given : Result Sheet SheetRefusal → Sheet
-sheet_given (Ok sheet) = sheet
-sheet_given (Err refusal) = empty_sheet
 
 -- what an answer tells: its number and the sheet beside it
 pub record Told : Type 0 where
   pub number : ℕ
   pub sheet : Sheet
 
-unfoldable pub sheet_told : Result Sheet SheetRefusal → Told
-sheet_told made = record { number = sheet_answer_number made; sheet = sheet_given made }
+unfoldable pub sheet_told : MadeSheet → Told
+sheet_told made = record { number = sheet_answer_number made.answer; sheet = made.sheet }
 
 -- "a refusal gives an empty sheet"
 unfoldable pub making : List ℕ → Told

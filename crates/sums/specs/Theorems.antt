@@ -1,8 +1,8 @@
 -- What proofs/ proves over the definitions of the sheet, as sentences.
-use Rattle.std.specs.Prelude.{ℕ, ◌+◌, ◌*◌, ◌^◌, ◌≤◌, ◌<◌, ◌≡◌, List, [], length, get_or, Result}
+use Rattle.std.specs.Prelude.{ℕ, ◌+◌, ◌*◌, ◌^◌, ◌≤◌, ◌<◌, ◌≡◌, List, [], length, get_or}
 use Rattle.lists.specs.Loops.{total}
 use Rattle.sums.specs.declared.Sheet.{Sheet}
-use Rattle.sums.specs.declared.SheetRefusal.{SheetRefusal}
+use Rattle.sums.specs.declared.MadeSheet.{MadeSheet}
 use Rattle.sums.specs.Sheet.{lock_places, steps_place, locks_place, busy_place, grants_place, failed_place, run_count, number_at, sheet_locks, over_runs, sheet_number, empty_sheet, busy_of, grants_of, failed_of, shares_of, making}
 use Rattle.sums.specs.Text.{sheet_room, sheet_text}
 
@@ -93,4 +93,4 @@ NothingWraps = (numbers : List ℕ) (lock : ℕ) → sheet_number numbers ≡ 0 
 
 -- the room that the writer of sheets asks for is enough for every answer
 abbrev pub RoomForEverySheet : Type 0
-RoomForEverySheet = (made : Result Sheet SheetRefusal) → length (sheet_text made) ≤ sheet_room
+RoomForEverySheet = (made : MadeSheet) → length (sheet_text made) ≤ sheet_room

@@ -9,7 +9,7 @@ mod rows;
 mod writing;
 
 ghost use Rattle.std.specs.Prelude.{◌≡◌};
-ghost use Rattle.sums.specs.Sheet.{refusal_number, sheet_answer_number, sheet_told, making};
+ghost use Rattle.sums.specs.Sheet.{sheet_of, Summable, refusal_number, sheet_answer_number, sheet_told, making};
 
 pub use writing::write_sheet;
 
@@ -38,7 +38,7 @@ pub struct Sheet {
     pub rows: [SheetRow; LOCKS],
 }
 
-// Why no sheet was made: 24, 25, 26.
+// Why runs are refused: 24, 25, 26.
 #[derive(Clone, Copy, Debug, PartialEq, Eq)]
 pub enum SheetRefusal {
     TooManyRuns,
@@ -60,29 +60,48 @@ impl SheetRefusal {
     }
 }
 
+// The answer with its sheet, which is empty where the runs are refused. The sheet stands beside the answer and not in it: `make_sheet` is promised to
+// give one for every input, and of a refusal the one of no runs.
+#[derive(Clone, Copy)]
+pub struct MadeSheet {
+    pub answer: Result<(), SheetRefusal>,
+    pub sheet: Sheet,
+}
+
 // The number of an answer in 02; 0 where the sheet was made.
 #[tactic(auto, unfolding(crate::specs::Sheet::sheet_answer_number))]
-pub fn sheet_number(made: Result<Sheet, SheetRefusal>) -> u8
-    ensures { result ≡ sheet_answer_number made }
+pub fn sheet_number(answer: Result<(), SheetRefusal>) -> u8
+    ensures { result ≡ sheet_answer_number answer }
 {
-    match made {
-        Ok(_) => 0,
+    match answer {
+        Ok(()) => 0,
         Err(refusal) => refusal.number(),
     }
 }
 
-// The sheet of the runs, or why there is none.
-pub fn make_sheet(numbers: &[u64]) -> Result<Sheet, SheetRefusal>
+// An answer with the sheet of these runs beside it.
+#[tactic(auto, unfolding(crate::specs::Sheet::sheet_told))]
+fn with_sheet(answer: Result<(), SheetRefusal>, numbers: &[u64]) -> MadeSheet
+    requires { Summable numbers.now }
+    ensures { sheet_told result ≡ record { number = sheet_answer_number answer; sheet = sheet_of numbers.now } }
+{
+    let sheet = rows::sheet_of(numbers);
+    MadeSheet { answer, sheet }
+}
+
+// The sheet of the runs; that of no runs where they are refused.
+pub fn make_sheet(numbers: &[u64]) -> MadeSheet
     ensures { sheet_told result ≡ making numbers.now }
 {
+    let none = &numbers[..0];
     if MOST_NUMBERS < numbers.len() {
-        return Err(SheetRefusal::TooManyRuns);
+        return with_sheet(Err(SheetRefusal::TooManyRuns), none);
     }
     if !refusals::locks_right(numbers) {
-        return Err(SheetRefusal::LocksWrong);
+        return with_sheet(Err(SheetRefusal::LocksWrong), none);
     }
     if !refusals::runs_in_range(numbers) {
-        return Err(SheetRefusal::OutOfRange);
+        return with_sheet(Err(SheetRefusal::OutOfRange), none);
     }
-    Ok(rows::sheet_of(numbers))
+    with_sheet(Ok(()), numbers)
 }

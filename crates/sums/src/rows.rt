@@ -81,7 +81,7 @@ fn row_of(numbers: &[u64], lock: usize, steps: u64) -> SheetRow
     }
 }
 
-// The sheet of the runs, all of them in range.
+// The sheet of the runs, all of them in range. Of no runs it is the empty sheet.
 pub(crate) fn sheet_of(numbers: &[u64]) -> Sheet
     requires { Summable numbers.now }
     ensures { result ≡ sheet_of numbers.now }

@@ -3,7 +3,7 @@ ghost use Rattle.std.specs.Prelude.{◌+◌, ◌≤◌, min, ◌≡◌, [], ◌�
 ghost use Rattle.lines.specs.Line.{row, buffer_after, written_told};
 ghost use Rattle.sums.specs.Text.{sheet_rows, sheet_writing, buffer_after_sheet};
 
-use crate::{LOCKS, Sheet, SheetRefusal, SheetRow};
+use crate::{LOCKS, MadeSheet, Sheet, SheetRow};
 use lines::TooShort;
 
 // Room for any sheet: 64 rows of at most 105 bytes.
@@ -44,15 +44,15 @@ fn put_rows(sheet: Sheet, buffer: &mut [u8]) -> usize
 }
 
 // Writes a sheet, or a refusal, at the buffer's start; or refuses a buffer without room for any sheet and leaves it as it was.
-pub fn write_sheet(made: Result<Sheet, SheetRefusal>, buffer: &mut [u8]) -> Result<usize, TooShort>
+pub fn write_sheet(made: MadeSheet, buffer: &mut [u8]) -> Result<usize, TooShort>
     ensures result_value { written_told result ≡ sheet_writing buffer.old made }
     ensures buffer_after { buffer.new ≡ buffer_after_sheet buffer.old made }
 {
     if buffer.len() < SHEET_ROOM {
         return Err(TooShort);
     }
-    match made {
-        Ok(sheet) => Ok(put_rows(sheet, buffer)),
+    match made.answer {
+        Ok(()) => Ok(put_rows(made.sheet, buffer)),
         Err(refusal) => lines::write_line(buffer, 0, b'Q', &[u64::from(refusal.number()), 0]),
     }
 }

@@ -30,7 +30,7 @@ fn positions<'a>(rt: &impl Print, count: u8, values: &'a [u8]) -> Result<&'a [u8
 }
 
 // Writes the plan of a row.
-pub fn plan(rt: &impl Print, row: Row) -> Result<()> {
+fn plan(rt: &impl Print, row: Row) -> Result<()> {
     let Row { rules, locks, .. } = row;
     if cars::multiring(rules) {
         print!(rt; "multi")?;
@@ -38,4 +38,11 @@ pub fn plan(rt: &impl Print, row: Row) -> Result<()> {
     print!(rt; "ring, rules {rules}, <")?;
     positions(rt, row.positions, row.values)?;
     print!(rt; ">, locks {locks}")
+}
+
+// Writes a row: its plan, the states found, their number elsewhere, how the tests went.
+pub fn row(rt: &impl Print, row: Row, found: usize, elsewhere: &str, tests: &str) -> Result<()> {
+    let states = row.states;
+    plan(rt, row)?;
+    println!(rt; ": states {found}, {elsewhere} {states}; {tests}")
 }

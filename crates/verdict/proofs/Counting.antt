@@ -9,7 +9,7 @@ use lib.Dec.{eqb, ltb, lit≤}
 use lib.ListN.{length, get_or, replicate, length-replicate}
 use borrow.Author.Tests.{ne_eqb, ltb-true, ltb-false}
 use Rattle.lists.proofs.Tests.{by_test, by_value}
-use Rattle.std.specs.Prelude.{Option, Some, None, is_some, unwrap_or}
+use Rattle.std.specs.Prelude.{Option, Some, None}
 use Rattle.linereader.specs.declared.LineKind.{LineKind}
 use Rattle.linereader.specs.declared.LineKind.TheVariants.{Deed, Lock, Last, Refusal}
 use Rattle.linereader.specs.declared.Part.{Part}
@@ -160,10 +160,10 @@ refused-more refused = by_test (λ (n : ℕ). refused ≤ n) (ltb refused (2 ^ 6
 line-keeps : (kind : Option LineKind) (scan : Scan) (g : Gather) → in_all g ≤ in_all (after_line kind scan g)
 unfolding after_line faulty deed_read lock_read last_read refusal_read
 line-keeps None scan g = omega arith
-line-keeps (Some Deed) scan g = by_test (λ (h : Gather). in_all g ≤ in_all h) (eqb (unwrap_or g.run 0) 0) (λ e. omega arith) (λ e. omega arith)
-line-keeps (Some Lock) scan g = by_test (λ (h : Gather). in_all g ≤ in_all h) (is_next_lock (first_of scan) (unwrap_or g.run 0)) (λ e. omega arith) (λ e. omega arith)
+line-keeps (Some Deed) scan g = by_test (λ (h : Gather). in_all g ≤ in_all h) (eqb g.locks 0) (λ e. omega arith) (λ e. omega arith)
+line-keeps (Some Lock) scan g = by_test (λ (h : Gather). in_all g ≤ in_all h) (is_next_lock (first_of scan) g.locks) (λ e. omega arith) (λ e. omega arith)
 line-keeps (Some Last) scan g = omega (arith, run_more g.runs)
-line-keeps (Some Refusal) scan g = by_test (λ (h : Gather). in_all g ≤ in_all h) (is_some g.run) (λ e. omega arith) (λ e. omega (arith, refused-more g.refused))
+line-keeps (Some Refusal) scan g = by_test (λ (h : Gather). in_all g ≤ in_all h) g.inside (λ e. omega arith) (λ e. omega (arith, refused-more g.refused))
 
 part_keeps : (part : Part) (scan : Scan) (g : Gather) → in_all g ≤ in_all (after_part part scan g)
 unfolding after_part inside_line faulty

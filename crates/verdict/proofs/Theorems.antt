@@ -10,7 +10,7 @@ use lib.ListN.{length, get_or}
 use borrow.Author.Tests.{eq-eqb, le-leb, lt-ltb, le-ltb, eqb-true, leb-true, ltb-true, ltb-false}
 use Rattle.lists.proofs.Laws.{and_left, and_right}
 use Rattle.lists.proofs.Tests.{by_test, by_value, and_both, or_second, or_by_first, or_by_second}
-use Rattle.std.specs.Prelude.{Option, Some, None, is_some}
+use Rattle.std.specs.Prelude.{Option, Some, None}
 use Rattle.gather.specs.declared.Fault.{Fault}
 use Rattle.gather.specs.declared.Gather.{Gather}
 use Rattle.gather.specs.Gathering.{start_gather, is_fine, at_line_start, end_fault, fault_of, after_all}
@@ -71,7 +71,7 @@ unfolding fault_of is_fine
 fine_on_the_way g e =
     by_value (λ (b : Bool). is_fine g.fault ≡ true) (is_fine g.fault)
     (λ t. t)
-    (λ t. ap is_fine (ap (λ (b : Bool). cond b (end_fault (at_line_start g.scan.part (is_some g.scan.number)) (is_some g.run)) g.fault) (sym t) ∙ e))
+    (λ t. ap is_fine (ap (λ (b : Bool). cond b (end_fault (at_line_start g.scan.part g.scan.begun) g.inside) g.fault) (sym t) ∙ e))
 
 -- what gather says of it
 piece_fine : {piece : Piece} → Pieces (piece ∷ []) → fault_of (after_all start_gather (piece_text piece)) ≡ None

@@ -9,7 +9,7 @@ use lib.Dec.{eqb, lit<, lit≤}
 use lib.ListN.{get_or}
 use lib.Seq.{get_or-take}
 use Rattle.lists.proofs.Tests.{by_test, by_value}
-use Rattle.std.specs.Prelude.{Option, Some, None, is_some, unwrap_or}
+use Rattle.std.specs.Prelude.{Option, Some, None}
 use Rattle.linereader.specs.declared.LineKind.{LineKind}
 use Rattle.linereader.specs.declared.LineKind.TheVariants.{Deed, Lock, Last, Refusal}
 use Rattle.linereader.specs.declared.Part.{Part}
@@ -119,10 +119,10 @@ line-watched l w at is =
 starts_again : (kind : Option LineKind) (scan : Scan) (g : Gather) → (after_line kind scan g).scan ≡ start_scan
 unfolding after_line faulty deed_read lock_read last_read refusal_read
 starts_again None scan g = refl
-starts_again (Some Deed) scan g = by_test (λ (h : Gather). h.scan ≡ start_scan) (eqb (unwrap_or g.run 0) 0) (λ e. refl) (λ e. refl)
-starts_again (Some Lock) scan g = by_test (λ (h : Gather). h.scan ≡ start_scan) (is_next_lock (first_of scan) (unwrap_or g.run 0)) (λ e. refl) (λ e. refl)
+starts_again (Some Deed) scan g = by_test (λ (h : Gather). h.scan ≡ start_scan) (eqb g.locks 0) (λ e. refl) (λ e. refl)
+starts_again (Some Lock) scan g = by_test (λ (h : Gather). h.scan ≡ start_scan) (is_next_lock (first_of scan) g.locks) (λ e. refl) (λ e. refl)
 starts_again (Some Last) scan g = refl
-starts_again (Some Refusal) scan g = by_test (λ (h : Gather). h.scan ≡ start_scan) (is_some g.run) (λ e. refl) (λ e. refl)
+starts_again (Some Refusal) scan g = by_test (λ (h : Gather). h.scan ≡ start_scan) g.inside (λ e. refl) (λ e. refl)
 
 line_behind : (l : TextLine) (g : Gather) → AtLine g → IsLine l.steps l.letter l.numbers → (after_all g (line_text l)).scan ≡ start_scan
 line_behind l g at is =

@@ -13,7 +13,7 @@ pub loop-byte-preserved : goal.loop-byte-preserved
 unfolding after_all rows_after_all names_after_all
 loop-byte-preserved c =
     let turn = c.loop-byte in
-    let told = c.night_byte-state.ensures in
+    let told = c.night_byte.ensures in
     let text : List ℕ = c.args.text.now in
     let byte : ℕ = get_or text turn.byte-index 0 in
     let rest : List ℕ = drop (turn.byte-index + 1) text in
@@ -21,13 +21,13 @@ loop-byte-preserved c =
     let name_room : ℕ = length c.args.names.now in
     record {
       stands = ap (λ (night : Night). after_all room name_room night rest)
-          (told.value ∙ ap₂ (λ (n k : ℕ). after_byte n k turn.state byte) turn.auto.rows turn.auto.names)
+          (told.night_after ∙ ap₂ (λ (n k : ℕ). after_byte n k turn.state byte) turn.auto.rows turn.auto.names)
           ∙ sym (at_drop_more (after_all room name_room turn.state) text turn.byte-index 0 c.loop-byte-test.true) ∙ turn.invariant.stands;
       told = ap₂ (λ (night : Night) (rows : List Entry). rows_after_all name_room night rest rows)
-          (told.value ∙ ap (λ (k : ℕ). after_byte (length turn.rows) k turn.state byte) turn.auto.names) told.rows_after
+          (told.night_after ∙ ap (λ (k : ℕ). after_byte (length turn.rows) k turn.state byte) turn.auto.names) told.rows_after
           ∙ sym (at_drop_more (λ (l : List ℕ). rows_after_all name_room turn.state l turn.rows) text turn.byte-index 0 c.loop-byte-test.true) ∙ turn.invariant.told;
       named = ap₂ (λ (night : Night) (names : List ℕ). names_after_all room night rest names)
-          (told.value ∙ ap (λ (n : ℕ). after_byte n (length turn.names) turn.state byte) turn.auto.rows) told.names_after
+          (told.night_after ∙ ap (λ (n : ℕ). after_byte n (length turn.names) turn.state byte) turn.auto.rows) told.names_after
           ∙ sym (at_drop_more (λ (l : List ℕ). names_after_all room turn.state l turn.names) text turn.byte-index 0 c.loop-byte-test.true) ∙ turn.invariant.named;
     }
 

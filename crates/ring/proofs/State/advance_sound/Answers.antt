@@ -1,9 +1,8 @@
 -- Several steps of a state that passes 13, along the route of its plan: in the loop what is left to do leads to what was asked.
-use Rattle.std.proofs.Common.{◌≡◌, ◌+◌, ◌-◌, ◌<◌, ◌≤◌, List, arith, refl, sym, ap, ◌∙◌}
+use Rattle.std.proofs.Common.{◌+◌, ◌-◌, ◌<◌, ◌≤◌, arith, refl, sym, ◌∙◌}
 use Rattle.std.proofs.Math.Nat.{sub-zero}
 use Rattle.lists.proofs.Firsts.{all_of_firsts}
 use Rattle.plan.proofs.Laws.{nodes_most}
-use Rattle.ring.specs.declared.Advanced.{Advanced}
 use Rattle.ring.specs.Walk.{quiet}
 use Rattle.ring.specs.Advance.{no_event}
 use Rattle.ring.proofs.Laws.{sound_plan}

@@ -10,6 +10,6 @@ use Rattle.ring.proofs.State.junctions_pass.Goals as goal
 pub returns : goal.returns
 returns c =
     let passes = junction_sound c.args.limits.rules c.args.limits.nodes c.args.limits.locks in
-    let places = take c.args.count c.args.self.junctions in
+    let places = take c.args.count c.args.self.now.junctions in
     all_from_yields_List passes _ _ _ c.all.ensures.ran (YieldsList-from_slice places cc) (λ x b q k. search (rules, tests))
-    ∙ all_of_firsts passes rest_junction c.args.self.junctions c.args.count (search rules)
+    ∙ all_of_firsts passes rest_junction c.args.self.now.junctions c.args.count (search rules)

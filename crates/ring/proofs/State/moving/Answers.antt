@@ -10,35 +10,35 @@ use Rattle.ring.specs.Step.{step_answer_number}
 use Rattle.ring.specs.Trip.{sets_out, unopened, trip_number, moving_along}
 use Rattle.ring.proofs.Going.{trip_after, reached_start, reached_next_lem, past_nowhere, past_node_lem, into_junction_lem, out_of_junction_lem, arrived, moved}
 use Rattle.ring.proofs.State.moving.Goals as goal
-use Rattle.ring.proofs.State.moving.Goals.{in-None, in-Some-At, in-Some-Into, in-Some-Out}
+use Rattle.ring.proofs.State.moving.Goals.{in-At, in-Into, in-Out}
 
 pub loop-number-init : goal.loop-number-init
 unfolding sets_out quiet unopened
 loop-number-init c = record { at = reached_start _ _; kept = refl }
 
+pub loop-number-preserved-in_default : goal.loop-number-preserved-in_default
+loop-number-preserved-in_default c =
+    let before = c.loop-number.invariant in
+    record { at = reached_next_lem _ _ _ _ _ _ before.at c.loop-number-test.true (sym c.in_default.is ∙ c.leg_of.ensures) (past_nowhere _ _); kept = before.kept }
+
 pub loop-number-preserved : goal.loop-number-preserved
 unfolding rest_node rest_junction unopened
 loop-number-preserved c =
     let before = c.loop-number.invariant in
-    elim c.match-leg_of.branch [
-      | in-None w ↦ record {
-        at = reached_next_lem _ _ _ _ _ _ before.at c.loop-number-test.true (sym w.in-None.is ∙ c.leg_of.ensures)
-            (trip_after w.passed-is w.last-is w.astray-is w.wants-is w.next-is w.events-is w.opened-is ∙ past_nowhere _ _);
-        kept = ap (λ (s : State). s.plan) w.next-is ∙ before.kept;
-      }
-      | in-Some-At w ↦ record {
-        at = reached_next_lem _ _ _ _ _ _ before.at c.loop-number-test.true (sym (w.in-Some-At.is ∙ ap Some w.in-Some-At.field-0-is) ∙ c.leg_of.ensures)
+    elim c.match-leg.branch [
+      | in-At w ↦ record {
+        at = reached_next_lem _ _ _ _ _ _ before.at c.loop-number-test.true (sym (c.in-Some.is ∙ ap Some w.in-At.is) ∙ c.leg_of.ensures)
             (trip_after w.passed-is w.last-is w.astray-is w.wants-is w.next-is w.events-is w.opened-is
             ∙ past_node_lem _ _ _ _ _ _ w.turn_of-turn.ensures w.astray-astray.ensures w.wants_train-wants.ensures);
         kept = ap (λ (s : State). s.plan) w.next-is ∙ before.kept;
       }
-      | in-Some-Into w ↦ record {
-        at = reached_next_lem _ _ _ _ _ _ before.at c.loop-number-test.true (sym (w.in-Some-Into.is ∙ ap Some w.in-Some-Into.field-0-is) ∙ c.leg_of.ensures)
+      | in-Into w ↦ record {
+        at = reached_next_lem _ _ _ _ _ _ before.at c.loop-number-test.true (sym (c.in-Some.is ∙ ap Some w.in-Into.is) ∙ c.leg_of.ensures)
             (trip_after w.passed-is w.last-is w.astray-is w.wants-is w.next-is w.events-is w.opened-is ∙ into_junction_lem _ _ _);
         kept = ap (λ (s : State). s.plan) w.next-is ∙ before.kept;
       }
-      | in-Some-Out w ↦ record {
-        at = reached_next_lem _ _ _ _ _ _ before.at c.loop-number-test.true (sym (w.in-Some-Out.is ∙ ap Some w.in-Some-Out.field-0-is) ∙ c.leg_of.ensures)
+      | in-Out w ↦ record {
+        at = reached_next_lem _ _ _ _ _ _ before.at c.loop-number-test.true (sym (c.in-Some.is ∙ ap Some w.in-Out.is) ∙ c.leg_of.ensures)
             (trip_after w.passed-is w.last-is w.astray-is w.wants-is w.next-is w.events-is w.opened-is ∙ out_of_junction_lem _ _ _ _ _ w.turn.ensures);
         kept = ap (λ (s : State). s.plan) w.next-is ∙ before.kept;
       }

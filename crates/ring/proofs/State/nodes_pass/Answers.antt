@@ -10,6 +10,6 @@ use Rattle.ring.proofs.State.nodes_pass.Goals as goal
 pub returns : goal.returns
 returns c =
     let passes = node_sound c.args.limits.rules c.args.limits.nodes c.args.limits.locks in
-    let places = take c.args.limits.nodes c.args.self.nodes in
+    let places = take c.args.limits.nodes c.args.self.now.nodes in
     all_from_yields_List passes _ _ _ c.all.ensures.ran (YieldsList-from_slice places cc) (λ x b q k. search (rules, tests))
-    ∙ all_of_firsts passes rest_node c.args.self.nodes c.args.limits.nodes (search rules)
+    ∙ all_of_firsts passes rest_node c.args.self.now.nodes c.args.limits.nodes (search rules)

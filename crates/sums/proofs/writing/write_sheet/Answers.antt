@@ -2,8 +2,8 @@
 use Rattle.std.proofs.Common.{◌∙◌}
 use borrow.Author.Tests.{lt-leb}
 use Rattle.lines.specs.Line.{written_told, written_number, written_length}
-use Rattle.sums.specs.Text.{sheet_text, sheet_writing, buffer_after_sheet}
-use Rattle.sums.proofs.Written.{sheet_told_lem, sheet_put, refusal_told, refusal_put}
+use Rattle.sums.specs.Text.{sheet_writing, buffer_after_sheet}
+use Rattle.sums.proofs.Written.{text_made, text-refused, sheet_told_lem, sheet_put, refusal_told, refusal_put}
 use Rattle.sums.proofs.writing.write_sheet.Goals as goal
 
 pub returns-then-buffer-lt-SHEET_ROOM : goal.returns-then-buffer-lt-SHEET_ROOM
@@ -15,24 +15,23 @@ returns-then-buffer-lt-SHEET_ROOM c =
     }
 
 pub returns-in-Ok : goal.returns-in-Ok
-unfolding written_told written_number written_length sheet_text
+unfolding written_told written_number written_length
 returns-in-Ok c =
     let buffer = c.args.buffer.now in
     let room = c.if-buffer-lt-SHEET_ROOM.false in
-    let e = c.in-Ok.is in
+    let text = text_made c.args.made c.in-Ok.is in
     record {
-      result_value = rw (sheet_told_lem buffer c.args.made room, e, c.put_rows.ensures.value);
-      buffer_after = rw (sheet_put buffer c.args.made room, e) c.put_rows.ensures.buffer_after;
+      result_value = rw (sheet_told_lem buffer c.args.made room, text, c.put_rows.ensures.value);
+      buffer_after = rw (sheet_put buffer c.args.made room, text) c.put_rows.ensures.buffer_after;
     }
 
 pub returns-in-Err : goal.returns-in-Err
-unfolding sheet_text
 returns-in-Err c =
     let buffer = c.args.buffer.now in
     let room = c.if-buffer-lt-SHEET_ROOM.false in
-    let e = c.in-Err.is in
+    let text = text-refused c.args.made c.in-Err.is in
     let number = c.from.result in
     record {
-      result_value = rw (sheet_told_lem buffer c.args.made room, e, ← (c.from.ensures ∙ c.number.ensures)) (c.write_line.ensures.result_value ∙ refusal_told buffer number room);
-      buffer_after = rw (sheet_put buffer c.args.made room, e, ← (c.from.ensures ∙ c.number.ensures)) (c.write_line.ensures.buffer_after ∙ refusal_put buffer number room);
+      result_value = rw (sheet_told_lem buffer c.args.made room, text, ← (c.from.ensures ∙ c.number.ensures)) (c.write_line.ensures.result_value ∙ refusal_told buffer number room);
+      buffer_after = rw (sheet_put buffer c.args.made room, text, ← (c.from.ensures ∙ c.number.ensures)) (c.write_line.ensures.buffer_after ∙ refusal_put buffer number room);
     }
