@@ -13,11 +13,11 @@ use Rattle.lists.proofs.Tests.{by_value, by_test}
 use Rattle.gather.specs.Gathering.{more}
 use Rattle.gather.proofs.Lines.{one_more}
 use Rattle.verdict.specs.declared.Judged.{Judged}
-use Rattle.verdict.specs.Verdicts.{verdict_number, verdict_of}
+use Rattle.verdict.specs.Verdicts.{verdict_number, judged, verdict_of}
 use Rattle.morning.specs.declared.Night.{Night}
 use Rattle.morning.specs.declared.Entry.{Entry}
-use Rattle.morning.specs.Reading.{start_night, counted_at, is_listed, closed_as, closed_by}
-use Rattle.morning.specs.Theorems.{Schedule, number_of, is_good, count_of, not_good}
+use Rattle.morning.specs.Reading.{start_night, counted_at, is_listed, closed_as, closed_by, closing, end_night}
+use Rattle.morning.specs.Theorems.{Schedule, number_of, is_good, count_of, not_good, TheEndKeepsWhatWasRead}
 use Rattle.morning.specs.AnyText.{schedules_in, TextCounted}
 use Rattle.morning.proofs.Laws.{verdict_low, good_number_lem}
 use Rattle.morning.proofs.Told.{Book, whole, closed, closings, at_start, all_told}
@@ -35,6 +35,13 @@ unfolding closed_by
 closed_cases P j room night listed unlisted good =
     by_test P (is_listed (verdict_number j.verdict) night.hand.fits night.listed room) listed
     (λ e. by_test P (ltb (verdict_number j.verdict) 6) unlisted good)
+
+pub the_end_keeps_what_was_read : TheEndKeepsWhatWasRead
+unfolding end_night closing closed_as
+the_end_keeps_what_was_read room night =
+    by_test (λ (after : Night). after.hand.watch ≡ night.hand.watch) night.begun
+    (λ e. closed_cases (λ (after : Night). after.hand.watch ≡ night.hand.watch) (judged night.hand.watch) room night (λ e. refl) (λ e. refl) (λ e. refl))
+    (λ e. refl)
 
 -- ---- the counts
 

@@ -129,6 +129,10 @@ AllAreListed =
     (rows : List Entry) (names : List ℕ) (schedules : List Schedule) → Schedules schedules → length (not_good schedules) ≤ length rows
     → name_bytes (not_good schedules) + longest_name schedules ≤ length names → Listed rows names schedules
 
+-- what was read of a schedule stays when it has ended: what is read behind the end of a night goes on with it
+abbrev pub TheEndKeepsWhatWasRead : Type 0
+TheEndKeepsWhatWasRead = (room : ℕ) (night : Night) → (end_night room night).hand.watch ≡ night.hand.watch
+
 -- ---- the order of the report
 
 -- going from the first listed schedule to the next, each is met once: by verdict, worst first, and of one verdict in the order of the text
