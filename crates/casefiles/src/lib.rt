@@ -9,6 +9,9 @@ use std::io::{Error, ErrorKind, Result};
 use std::rt::Files;
 use std::{fs, str};
 
+#[cfg(test)]
+mod tests;
+
 // How many arguments the program was started with, its own name among them.
 pub fn arg_count(rt: &impl Env) -> usize {
     let mut argument = [0u8; 4096];
@@ -64,7 +67,7 @@ impl<R: Env + Files> Case<'_, R> {
 
 impl<R: Env + Print> Case<'_, R> {
     // Writes the case's name: its argument, or nothing where that has no room.
-    fn write_name(&self) -> Result<()> {
+    pub fn write_name(&self) -> Result<()> {
         let mut name = [0u8; 4096];
         let length = self.rt.arg(self.argument, &mut name).unwrap_or(0);
         self.rt.write_all(&name[..length])

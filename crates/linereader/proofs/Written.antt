@@ -1,7 +1,7 @@
 -- What is written is read: from the start of a line, over its steps, its letter and its numbers to its newline.
 use Prim.Native.Nat.{ℕ, suc, ◌+◌, ◌-◌, ◌*◌, ◌/◌, ◌%◌, ◌^◌, ◌≤◌, ◌<◌}
 use mathlib.Core.Path.{◌≡◌, refl, sym, ap, ap₂, subst, ◌∙◌}
-use mathlib.Core.Bool.{Bool, true, false, ◌&&◌}
+use mathlib.Core.Bool.{Bool, true, false, ◌&&◌, true≢false}
 use mathlib.Core.List.{List, [], ◌∷◌, ◌++◌, append_assoc}
 use native.Mathlib.Omega.{arith}
 use lib.Dec.{eqb}
@@ -30,21 +30,23 @@ unfolding is_next_digit is_digit with_digit
 is_next begun number byte low high first small =
     rw (le-leb 48 byte low, le-leb byte 57 high, first, lt-ltb (number * 10 + (byte - 48)) (2 ^ 64) small) refl
 
--- scans by whether the number at hand has a digit, and by that number, where each next digit is put behind it
+-- scans by whether the number at hand has a digit, and by that number, where each next digit is put behind it; a number without a digit yet is 0
 module _ (F : Bool → ℕ → Scan)
-    (takes : (begun : Bool) (number byte : ℕ) → is_next_digit begun number byte ≡ true → scan_byte (F begun number) byte ≡ F true (with_digit number byte)) where
-  one_digit : (begun : Bool) (number byte n : ℕ) → is_next_digit begun number byte ≡ true → with_digit number byte ≡ n → scan_byte (F begun number) byte ≡ F true n
-  one_digit begun number byte n next e = takes begun number byte next ∙ ap (F true) e
+    (takes : (begun : Bool) (number byte : ℕ) → (begun ≡ false → number ≡ 0) → is_next_digit begun number byte ≡ true
+    → scan_byte (F begun number) byte ≡ F true (with_digit number byte)) where
+  one_digit : (begun : Bool) (number byte n : ℕ) → (begun ≡ false → number ≡ 0) → is_next_digit begun number byte ≡ true → with_digit number byte ≡ n
+      → scan_byte (F begun number) byte ≡ F true n
+  one_digit begun number byte n fresh next e = takes begun number byte fresh next ∙ ap (F true) e
 
   pub number_scanned : (n : ℕ) → n < 2 ^ 64 → scan_all (F false 0) (decimal n) ≡ F true n
   unfolding scan_all digit with_digit
   number_scanned n small =
       decimal-every (λ m ds. m < 2 ^ 64 → scan_all (F false 0) ds ≡ F true m)
-      (λ (m : ℕ) (h : m < 10) (s : m < 2 ^ 64). one_digit false 0 (48 + m) m (is_next false 0 (48 + m) (omega arith) (omega arith) refl (omega arith)) (omega arith))
+      (λ (m : ℕ) (h : m < 10) (s : m < 2 ^ 64). one_digit false 0 (48 + m) m (λ f. refl) (is_next false 0 (48 + m) (omega arith) (omega arith) refl (omega arith)) (omega arith))
       (λ (m : ℕ) (ds : List ℕ) (h : 10 ≤ m) (before : m / 10 < 2 ^ 64 → scan_all (F false 0) ds ≡ F true (m / 10)) (s : m < 2 ^ 64).
       scan_append (F false 0) ds ((48 + m % 10) ∷ [])
       ∙ ap (λ (t : Scan). scan_byte t (48 + m % 10)) (before (omega arith))
-      ∙ one_digit true (m / 10) (48 + m % 10) m
+      ∙ one_digit true (m / 10) (48 + m % 10) m (λ f. absurd (true≢false f))
       (is_next true (m / 10) (48 + m % 10) (omega arith) (omega arith) (ne_eqb (m / 10) 0 (λ (z : m / 10 ≡ 0). omega arith)) (omega arith))
       (omega arith))
       n small small
@@ -97,12 +99,12 @@ numbers_scanned : (rest : List ℕ) (n steps letter count : ℕ) (numbers : List
 unfolding scan_all spaced
 numbers_scanned [] n steps letter count numbers many small others =
     scan_append (numbering steps letter count numbers false 0) (decimal n) (10 ∷ [])
-    ∙ ap (λ (s : Scan). scan_byte s 10) (number_scanned (numbering steps letter count numbers) (numbers_take steps letter count numbers) n small)
+    ∙ ap (λ (s : Scan). scan_byte s 10) (number_scanned (numbering steps letter count numbers) (λ begun number byte fresh. numbers_take steps letter count numbers begun number byte) n small)
     ∙ last_ends steps letter count numbers n (omega (arith, at_most_four letter, many)) (eq-eqb (count + 1) (numbers_behind letter) (omega (arith, many)))
     ∙ ap (λ (k : ℕ). whole_scan steps letter k (set numbers count n)) (omega (arith, many))
 numbers_scanned (m ∷ rest) n steps letter count numbers many small others =
     scan_append (numbering steps letter count numbers false 0) (decimal n) (spaced (m ∷ rest) ++ (10 ∷ []))
-    ∙ ap (λ (s : Scan). scan_all s (spaced (m ∷ rest) ++ (10 ∷ []))) (number_scanned (numbering steps letter count numbers) (numbers_take steps letter count numbers) n small)
+    ∙ ap (λ (s : Scan). scan_all s (spaced (m ∷ rest) ++ (10 ∷ []))) (number_scanned (numbering steps letter count numbers) (λ begun number byte fresh. numbers_take steps letter count numbers begun number byte) n small)
     ∙ ap (λ (s : Scan). scan_all s (decimal m ++ spaced rest ++ (10 ∷ [])))
     (number_ends steps letter count numbers n (omega (arith, at_most_four letter, many))
     (ne_eqb (count + 1) (numbers_behind letter) (λ (z : count + 1 ≡ numbers_behind letter). omega (arith, many))))
@@ -133,7 +135,7 @@ line_scanned steps letter n rest h =
     let behind : List ℕ = decimal n ++ (spaced rest ++ (10 ∷ [])) in
     ap (scan_all (stepping false 0)) (line_apart steps letter n rest)
     ∙ scan_append (stepping false 0) (decimal steps) (32 ∷ letter ∷ 32 ∷ behind)
-    ∙ ap (λ (s : Scan). scan_all s (32 ∷ letter ∷ 32 ∷ behind)) (number_scanned stepping steps_take steps h.steps_small)
+    ∙ ap (λ (s : Scan). scan_all s (32 ∷ letter ∷ 32 ∷ behind)) (number_scanned stepping (λ begun number byte fresh. steps_take begun number byte) steps h.steps_small)
     ∙ ap (λ (s : Scan). scan_all s (letter ∷ 32 ∷ behind)) (steps_end steps)
     ∙ ap (λ (s : Scan). scan_all s behind) (letter_scanned steps letter h.known)
     ∙ numbers_scanned rest n steps letter 0 (replicate 4 0) (omega (arith, h.many)) (h.small 0) (λ place. h.small (suc place))
